@@ -34,9 +34,10 @@ use std::marker::Model;
 
 /// For each pattern, the tables that have an id that it matches.
 ///
-/// But for growth, `enter` and `leave` take time in the number of the table's ids, and not in that of the tables; `tables_of` takes
-/// constant time. So it is whichever ids the tables have, since nobody who chooses them knows the random keys. A list of an entity that
-/// no table ever mentioned is told to be empty without a look-up. Only `enter` takes memory.
+/// But for growth, `enter` and `leave` take time in the number of the table's ids, and not in that of the tables;
+/// `tables_of` takes constant time. So it is whichever ids the tables have, since nobody who chooses them knows the
+/// random keys. A list of an entity that no table ever mentioned is told to be empty without a look-up. Only `enter`
+/// takes memory.
 #[derive(Drop)]
 pub struct ComponentIndex<A: Allocator = Global> {
     entered: Register,
@@ -63,7 +64,8 @@ impl<A: Allocator> Model for ComponentIndex<A> {
 }
 
 impl<A: Allocator + Copy> ComponentIndex<A> {
-    /// An index without tables, which hashes patterns and tables with these random keys. It takes no memory before the first table.
+    /// An index without tables, which hashes patterns and tables with these random keys. It takes no memory before the
+    /// first table.
     pub fn new(alloc: A, random: RandomState) -> Self
         ensures empty { result ≡ finite.empty }
     {
@@ -77,8 +79,8 @@ impl<A: Allocator + Copy> ComponentIndex<A> {
 
     /// Enters a table that isn't entered, with its ids.
     ///
-    /// Where memory is refused, the index is as it was. So it is refused to a table whose serial is 2^64 or more, which takes more bits than lists
-    /// have for it: nobody can make so many tables.
+    /// Where memory is refused, the index is as it was. So it is refused to a table whose serial is 2^64 or more, which
+    /// takes more bits than lists have for it: nobody can make so many tables.
     pub fn enter(&mut self, key: TableKey, ids: &[Id]) -> Result<(), AllocError>
         requires { finite.get self.old key ≡ None }
         ensures entered { OnOk result (self.new ≡ finite.insert self.old key ids.now) }

@@ -83,8 +83,10 @@ fn list_new<A: Allocator + Copy>(
     key: ListedKey,
 ) -> Result<(), AllocError>
     requires { IsNewest lists.old key }
-    ensures listed { OnOk result (Adds lists.old lists.new (λ p. pattern_eq pattern.now p && not (matches_some p before.now)) key) }
-    ensures refused { OnErr result (Keeps lists.old lists.new (λ p. pattern_eq pattern.now p && not (matches_some p before.now)) key) }
+    ensures listed { OnOk result (Adds lists.old lists.new (λ p. pattern_eq pattern.now p
+        && not (matches_some p before.now)) key) }
+    ensures refused { OnErr result (Keeps lists.old lists.new (λ p. pattern_eq pattern.now p
+        && not (matches_some p before.now)) key) }
     ensures newest { OnOk result (IsNewest lists.new key) }
 {
     if pattern.matches_some(before) {
@@ -101,8 +103,10 @@ fn list_each<A: Allocator + Copy>(
     key: ListedKey,
 ) -> Result<(), AllocError>
     requires { IsNewest lists.old key }
-    ensures listed { OnOk result (Adds lists.old lists.new (λ p. is_among patterns.now p && not (matches_some p before.now)) key) }
-    ensures refused { OnErr result (Keeps lists.old lists.new (λ p. is_among patterns.now p && not (matches_some p before.now)) key) }
+    ensures listed { OnOk result (Adds lists.old lists.new (λ p. is_among patterns.now p
+        && not (matches_some p before.now)) key) }
+    ensures refused { OnErr result (Keeps lists.old lists.new (λ p. is_among patterns.now p
+        && not (matches_some p before.now)) key) }
     ensures newest { OnOk result (IsNewest lists.new key) }
 {
     for pattern in patterns {
@@ -111,7 +115,8 @@ fn list_each<A: Allocator + Copy>(
     Ok(())
 }
 
-/// Takes the table out of the list of the pattern, but for one that matches the id before, out of whose list the table is.
+/// Takes the table out of the list of the pattern, but for one that matches the id before, out of whose list the table
+/// is.
 fn unlist_new<A: Allocator>(
     lists: &mut Lists<A>,
     places: &mut Places<A>,

@@ -11,12 +11,14 @@ use std::alloc::{AllocError, Allocator};
 
 /// A mark for each index that an id mentions which was noted, up to the greatest of them. Marks stay.
 ///
-/// So a pattern that asks for an entity that no table ever mentioned is told without a look-up, and most entities are such.
+/// So a pattern that asks for an entity that no table ever mentioned is told without a look-up, and most entities are
+/// such.
 pub type Marks<A> = Vec<bool, A>;
 
 /// Notes what these ids mention.
 pub fn note_all<A: Allocator>(marks: &mut Marks<A>, ids: &[Id]) -> Result<(), AllocError>
-    ensures noted { OnOk result ((p : Asked) → list_any (matches p) ids.now ≡ true → may_match marks.new.items p ≡ true) }
+    ensures noted { OnOk result ((p : Asked) → list_any (matches p) ids.now ≡ true
+        → may_match marks.new.items p ≡ true) }
     ensures kept { Keeps marks.old.items marks.new.items }
 {
     for id in ids {

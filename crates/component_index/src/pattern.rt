@@ -36,8 +36,8 @@ impl Part {
 
 /// What a query asks of an id: a pattern with a second part asks for pairs, and one without for plain ids.
 ///
-/// So `*` asks for any plain id, and `(*,*)` for any pair. It is hashed as one 64-bit word, which two patterns share only where they
-/// ask for indexes that no entity has.
+/// So `*` asks for any plain id, and `(*,*)` for any pair. It is hashed as one 64-bit word, which two patterns share
+/// only where they ask for indexes that no entity has.
 #[derive(Clone, Copy, Debug, PartialEq, Eq)]
 pub struct Pattern {
     /// Of the component or tag, or of the relationship of a pair.

@@ -38,7 +38,8 @@ const NONE: Range = Range { start: 0, count: 0 };
 
 /// For tables, by slot, where they stand in their long lists, in the order in which they came into these.
 ///
-/// Who reads a place looks whether the table stands there: so no list depends on what is noted here, but only how fast it loses a table.
+/// Who reads a place looks whether the table stands there: so no list depends on what is noted here, but only how fast
+/// it loses a table.
 #[derive(Drop)]
 pub struct Places<A: Allocator> {
     // Those of one table stand together, since a table comes into all its lists at once.
@@ -82,7 +83,8 @@ impl<A: Allocator> Places<A> {
         Ok(())
     }
 
-    /// Where the table of a slot, which leaves, was noted to stand in a list. Lists are asked for in the order in which they were noted.
+    /// Where the table of a slot, which leaves, was noted to stand in a list. Lists are asked for in the order in which
+    /// they were noted.
     pub fn next(&mut self, slot: u32, word: u64) -> Option<usize> {
         let half = self.half_of(word);
         let range = self.range_of(slot);

@@ -6,7 +6,8 @@ ghost use Rattle.ecs_id.specs.Id.{id_cmp};
 ghost use Rattle.ecs_model.specs.Map.{IsMap};
 ghost use Rattle.ecs_archetypes.specs.Archetypes.{known_in};
 ghost use Rattle.ecs_table.specs.Archetype.{zero_cells};
-ghost use Rattle.ecs_archetypes.specs.Holdings.{AreHoldings, HoldAlike, agrees, cells_at, lives, upcoming, with_cells, with_entity};
+ghost use Rattle.ecs_archetypes.specs.Holdings.{AreHoldings, HoldAlike, agrees, cells_at, lives, upcoming, with_cells};
+ghost use Rattle.ecs_archetypes.specs.Holdings.{with_entity};
 ghost use Rattle.ecs_archetypes.specs.Housing.{IsHoused, holdings_of};
 ghost use Rattle.ecs_archetypes.specs.Lasting.{TablesLast};
 ghost use Rattle.ecs_archetypes.specs.Tables.{StandAlike};
@@ -28,7 +29,8 @@ impl<A: Allocator + Copy> Archetypes<A> {
         requires ascend { IsMap id_cmp ids.now }
         requires small { IsTrue (list_all (λ c. nat_le c.1 64) ids.now) }
         requires agree { IsTrue (list_all (λ c. agrees (known_in self.old.tables) c.0 c.1) ids.now) }
-        ensures settled { OnOk result (HoldAlike (holdings_of self.new) (with_cells (holdings_of self.old) entity.index (zero_cells ids.now))) }
+        ensures settled { OnOk result (HoldAlike (holdings_of self.new)
+            (with_cells (holdings_of self.old) entity.index (zero_cells ids.now))) }
         ensures refused { OnErr result (HoldAlike (holdings_of self.new) (holdings_of self.old)) }
         ensures kept { TablesLast ids.now self.old self.new }
     {
@@ -37,14 +39,16 @@ impl<A: Allocator + Copy> Archetypes<A> {
         Ok(())
     }
 
-    /// Makes an entity in the table of these ids, with zeros as their values. The caller has seen that an index is left.
+    /// Makes an entity in the table of these ids, with zeros as their values. The caller has seen that an index is
+    /// left.
     pub fn create(&mut self, ids: &[SizedId]) -> Result<EntityId, Memory>
         requires left { IsSome (upcoming (holdings_of self.old)) }
         requires ascend { IsMap id_cmp ids.now }
         requires small { IsTrue (list_all (λ c. nat_le c.1 64) ids.now) }
         requires agree { IsTrue (list_all (λ c. agrees (known_in self.old.tables) c.0 c.1) ids.now) }
         ensures next { IfOk result (λ e. upcoming (holdings_of self.old) ≡ Some e) }
-        ensures born { IfOk result (λ e. HoldAlike (holdings_of self.new) (with_cells (with_entity (holdings_of self.old) e) e.index (zero_cells ids.now))) }
+        ensures born { IfOk result (λ e. HoldAlike (holdings_of self.new)
+            (with_cells (with_entity (holdings_of self.old) e) e.index (zero_cells ids.now))) }
         ensures refused { OnErr result (HoldAlike (holdings_of self.new) (holdings_of self.old)) }
         ensures kept { TablesLast ids.now self.old self.new }
     {
@@ -62,7 +66,8 @@ impl<A: Allocator> Archetypes<A> {
         requires room { 0 < room_at self.old.tables to }
         ensures next { IfOk result (λ e. upcoming (holdings_of self.old) ≡ Some e) }
         ensures born { (f : Shape) → shape_at self.old.tables to ≡ Some f
-            → IfOk result (λ e. HoldAlike (holdings_of self.new) (with_cells (with_entity (holdings_of self.old) e) e.index (zero_cells f))) }
+            → IfOk result (λ e. HoldAlike (holdings_of self.new) (with_cells
+            (with_entity (holdings_of self.old) e) e.index (zero_cells f))) }
         ensures refused { OnErr result (self.new ≡ self.old) }
         ensures alike { StandAlike self.old.tables self.new.tables }
         ensures holdings { AreHoldings (holdings_of self.new) }

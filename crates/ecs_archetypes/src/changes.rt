@@ -38,7 +38,8 @@ impl<A: Allocator + Copy> Archetypes<A> {
     fn move_to(&mut self, entity: EntityId, to: TableKey)
         requires settled { IsTrue (is_settled (holdings_of self.old) entity) }
         requires room { 0 < room_at self.old.tables to }
-        ensures held { (f : Shape) → shape_at self.old.tables to ≡ Some f → HoldAlike (holdings_of self.new) (with_moved (holdings_of self.old) entity f) }
+        ensures held { (f : Shape) → shape_at self.old.tables to ≡ Some f
+            → HoldAlike (holdings_of self.new) (with_moved (holdings_of self.old) entity f) }
         ensures alike { StandAlike self.old.tables self.new.tables }
         ensures room { TakesRoom to self.old.tables self.new.tables }
         ensures whole { IsHoused self.new }
@@ -52,7 +53,8 @@ impl<A: Allocator + Copy> Archetypes<A> {
     // Carries out the moves that were planned, one after another. The tables that they left then give memory back.
     pub(crate) fn carry_out(&mut self, plan: &MovePlan<A>)
         requires ready { AreReady self.old plan.now }
-        ensures held { HoldAlike (holdings_of self.new) (with_all_moved self.old.tables plan.now (holdings_of self.old)) }
+        ensures held { HoldAlike (holdings_of self.new) (with_all_moved self.old.tables plan.now
+            (holdings_of self.old)) }
         ensures alike { StandAlike self.old.tables self.new.tables }
         ensures holdings { AreHoldings (holdings_of self.new) }
         ensures whole { IsHoused self.new }
@@ -65,7 +67,8 @@ impl<A: Allocator + Copy> Archetypes<A> {
     // The moves, while each table keeps the room for those that are left.
     fn move_all(&mut self, moves: &[EntityMove])
         requires ready { AreReady self.old moves.now }
-        ensures held { HoldAlike (holdings_of self.new) (with_all_moved self.old.tables moves.now (holdings_of self.old)) }
+        ensures held { HoldAlike (holdings_of self.new) (with_all_moved self.old.tables moves.now
+            (holdings_of self.old)) }
         ensures alike { StandAlike self.old.tables self.new.tables }
         ensures whole { IsHoused self.new }
     {

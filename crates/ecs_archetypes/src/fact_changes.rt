@@ -1,5 +1,6 @@
 //! Facts that come and go of several entities at once.
-ghost use Rattle.std.specs.Prelude.{◌≡◌, ◌≤◌, ◌+◌, ◌++◌, ◌∷◌, not, [], Some, IfOk, IsSome, OnErr, OnOk, IsTrue, is_some, nat_le};
+ghost use Rattle.std.specs.Prelude.{◌≡◌, ◌≤◌, ◌+◌, ◌++◌, ◌∷◌, not, [], Some, IfOk, IsSome, OnErr, OnOk, IsTrue};
+ghost use Rattle.std.specs.Prelude.{is_some, nat_le};
 ghost use Rattle.std.specs.List.{list_all};
 ghost use Rattle.std.specs.List.Sorted.{IsStrictlySortedBy};
 ghost use Rattle.ecs_id.specs.Id.{id_cmp};
@@ -11,7 +12,8 @@ ghost use Rattle.ecs_archetypes.specs.FactChanges.{changed_shape, ids_among, ids
 ghost use Rattle.ecs_archetypes.specs.Holdings.{HoldAlike, KeepsSizes, agrees, cells_at, held_at, holds_id, is_settled};
 ghost use Rattle.ecs_archetypes.specs.Housing.{HasRoomMade, IsHoused, holdings_of};
 ghost use Rattle.ecs_archetypes.specs.Lasting.{TablesLast};
-ghost use Rattle.ecs_archetypes.specs.Moves.{AreReady, IsPlanned, are_deletable, moves_to, with_all_moved, without_each};
+ghost use Rattle.ecs_archetypes.specs.Moves.{AreReady, IsPlanned, are_deletable, moves_to, with_all_moved};
+ghost use Rattle.ecs_archetypes.specs.Moves.{without_each};
 ghost use Rattle.ecs_archetypes.specs.Tables.{HasGrown};
 ghost use Rattle.table_store.specs.Rows.{shape_of_cells};
 ghost use Rattle.table_store.specs.Store.{Shape, room_at, shape_at, table_at, with_id, without_id};
@@ -24,10 +26,12 @@ use ecs_model::FactKey;
 use std::alloc::Allocator;
 
 impl<A: Allocator + Copy> Archetypes<A> {
-    /// Takes the facts that went, brings those that came, with zeros as their values, and then deletes the dead; or does nothing of it.
+    /// Takes the facts that went, brings those that came, with zeros as their values, and then deletes the dead; or
+    /// does nothing of it.
     ///
-    /// Both lists ascend by entity, then by id, and no fact comes that is held. Each entity moves once. What the plan had is let go.
-    /// `Memory` where a growth is refused: each entity then holds what it held, and a table that was made on the way may stay.
+    /// Both lists ascend by entity, then by id, and no fact comes that is held. Each entity moves once. What the plan
+    /// had is let go. `Memory` where a growth is refused: each entity then holds what it held, and a table that was
+    /// made on the way may stay.
     pub fn change_facts(
         &mut self,
         plan: &mut FactPlan<A>,
@@ -37,12 +41,15 @@ impl<A: Allocator + Copy> Archetypes<A> {
     ) -> Result<(), Memory>
         requires came_ascend { IsStrictlySortedBy key_cmp (keys came.now) }
         requires went_ascend { IsStrictlySortedBy key_cmp went.now }
-        requires settled { IsTrue (list_all (λ k. is_some (cells_at (holdings_of self.old) k.0)) (keys came.now ++ went.now)) }
+        requires settled { IsTrue (list_all (λ k. is_some (cells_at (holdings_of self.old) k.0))
+            (keys came.now ++ went.now)) }
         requires unheld { IsTrue (list_all (λ k. not (holds_id (holdings_of self.old) k.0 k.1)) (keys came.now)) }
         requires small { IsTrue (list_all (λ c. nat_le c.1 64) came.now) }
-        requires agree { IsTrue (list_all (λ c. agrees (known_in self.old.tables ++ ids_coming came.now) c.0 c.1) (ids_coming came.now)) }
+        requires agree { IsTrue (list_all (λ c. agrees (known_in self.old.tables ++ ids_coming came.now) c.0 c.1)
+            (ids_coming came.now)) }
         requires dead { IsTrue (are_deletable (holdings_of self.old) dead.now) }
-        ensures changed { OnOk result (HoldAlike (holdings_of self.new) (without_each dead.now (with_facts_changed came.now went.now (holdings_of self.old)))) }
+        ensures changed { OnOk result (HoldAlike (holdings_of self.new)
+            (without_each dead.now (with_facts_changed came.now went.now (holdings_of self.old)))) }
         ensures refused { OnErr result (HoldAlike (holdings_of self.new) (holdings_of self.old)) }
         ensures kept { TablesLast (ids_coming came.now) self.old self.new }
     {
@@ -60,11 +67,14 @@ impl<A: Allocator + Copy> Archetypes<A> {
     ) -> Result<(), Memory>
         requires came_ascend { IsStrictlySortedBy key_cmp (keys came.now) }
         requires went_ascend { IsStrictlySortedBy key_cmp went.now }
-        requires settled { IsTrue (list_all (λ k. is_some (cells_at (holdings_of self.old) k.0)) (keys came.now ++ went.now)) }
+        requires settled { IsTrue (list_all (λ k. is_some (cells_at (holdings_of self.old) k.0))
+            (keys came.now ++ went.now)) }
         requires unheld { IsTrue (list_all (λ k. not (holds_id (holdings_of self.old) k.0 k.1)) (keys came.now)) }
         requires small { IsTrue (list_all (λ c. nat_le c.1 64) came.now) }
-        requires agree { IsTrue (list_all (λ c. agrees (known_in self.old.tables ++ ids_coming came.now) c.0 c.1) (ids_coming came.now)) }
-        ensures changed { OnOk result (HoldAlike (holdings_of self.new) (with_facts_changed came.now went.now (holdings_of self.old))) }
+        requires agree { IsTrue (list_all (λ c. agrees (known_in self.old.tables ++ ids_coming came.now) c.0 c.1)
+            (ids_coming came.now)) }
+        ensures changed { OnOk result (HoldAlike (holdings_of self.new)
+            (with_facts_changed came.now went.now (holdings_of self.old))) }
         ensures refused { OnErr result (HoldAlike (holdings_of self.new) (holdings_of self.old)) }
         ensures kept { TablesLast (ids_coming came.now) self.old self.new }
     {
@@ -86,10 +96,12 @@ impl<A: Allocator + Copy> Archetypes<A> {
     ) -> Result<(), Memory>
         requires came_ascend { IsStrictlySortedBy key_cmp (keys came.now) }
         requires went_ascend { IsStrictlySortedBy key_cmp went.now }
-        requires settled { IsTrue (list_all (λ k. is_some (cells_at (holdings_of self.old) k.0)) (keys came.now ++ went.now)) }
+        requires settled { IsTrue (list_all (λ k. is_some (cells_at (holdings_of self.old) k.0))
+            (keys came.now ++ went.now)) }
         requires unheld { IsTrue (list_all (λ k. not (holds_id (holdings_of self.old) k.0 k.1)) (keys came.now)) }
         requires small { IsTrue (list_all (λ c. nat_le c.1 64) came.now) }
-        requires agree { IsTrue (list_all (λ c. agrees (known_in self.old.tables ++ ids_coming came.now) c.0 c.1) (ids_coming came.now)) }
+        requires agree { IsTrue (list_all (λ c. agrees (known_in self.old.tables ++ ids_coming came.now) c.0 c.1)
+            (ids_coming came.now)) }
         ensures planned { OnOk result (with_all_moved self.new.tables plan.new.moves (holdings_of self.old)
             ≡ with_facts_changed came.now went.now (holdings_of self.old)) }
         ensures ready { OnOk result (AreReady self.new plan.new.moves) }
@@ -120,11 +132,13 @@ impl<A: Allocator + Copy> Archetypes<A> {
         requires came_ascend { IsMap id_cmp (ids_coming came.now) }
         requires went_ascend { IsStrictlySortedBy id_cmp (ids_among went.now) }
         requires settled { IsTrue (is_some (cells_at (holdings_of self.old) index)) }
-        requires unheld { IsTrue (list_all (λ c. not (holds_id (holdings_of self.old) index c.0)) (ids_coming came.now)) }
+        requires unheld { IsTrue (list_all (λ c. not (holds_id (holdings_of self.old) index c.0))
+            (ids_coming came.now)) }
         requires small { IsTrue (list_all (λ c. nat_le c.1 64) (ids_coming came.now)) }
         requires agree { IsTrue (list_all (λ c. agrees (known_in self.old.tables) c.0 c.1) (ids_coming came.now)) }
         ensures planned { OnOk result ((e : EntityId) × (e.index ≡ index)
-            × IsPlanned self.new.tables plan.old.moves e (changed_shape (ids_coming came.now) (is_among (ids_among went.now))
+            × IsPlanned self.new.tables plan.old.moves e (changed_shape (ids_coming came.now)
+            (is_among (ids_among went.now))
             (shape_of_cells (held_at (holdings_of self.old) index))) plan.new.moves) }
         ensures ready { OnOk result (AreReady self.new plan.new.moves) }
         ensures kept { HasRoomMade (ids_coming came.now) self.old self.new }
@@ -136,8 +150,8 @@ impl<A: Allocator + Copy> Archetypes<A> {
         Ok(())
     }
 
-    // The table of an entity after facts of it have come and gone, with room for the planned moves to it and for a row more: by an edge
-    // of its table where one id comes or goes, else by the list of its ids.
+    // The table of an entity after facts of it have come and gone, with room for the planned moves to it and for a row
+    // more: by an edge of its table where one id comes or goes, else by the list of its ids.
     pub(crate) fn table_after(
         &mut self,
         plan: &mut FactPlan<A>,
@@ -146,15 +160,18 @@ impl<A: Allocator + Copy> Archetypes<A> {
         came: &[SizedFact],
         went: &[FactKey],
     ) -> Result<TableKey, Memory>
-        requires there { shape_at self.old.tables from ≡ Some (shape_of_cells (held_at (holdings_of self.old) entity.index)) }
+        requires there { shape_at self.old.tables from ≡ Some (shape_of_cells
+            (held_at (holdings_of self.old) entity.index)) }
         requires settled { IsTrue (is_settled (holdings_of self.old) entity) }
         requires came_ascend { IsMap id_cmp (ids_coming came.now) }
         requires went_ascend { IsStrictlySortedBy id_cmp (ids_among went.now) }
-        requires unheld { IsTrue (list_all (λ c. not (holds_id (holdings_of self.old) entity.index c.0)) (ids_coming came.now)) }
+        requires unheld { IsTrue (list_all (λ c. not (holds_id (holdings_of self.old) entity.index c.0))
+            (ids_coming came.now)) }
         requires small { IsTrue (list_all (λ c. nat_le c.1 64) (ids_coming came.now)) }
         requires agree { IsTrue (list_all (λ c. agrees (known_in self.old.tables) c.0 c.1) (ids_coming came.now)) }
         ensures shape { IfOk result (λ key. shape_at self.new.tables key
-            ≡ Some (changed_shape (ids_coming came.now) (is_among (ids_among went.now)) (shape_of_cells (held_at (holdings_of self.old) entity.index)))) }
+            ≡ Some (changed_shape (ids_coming came.now) (is_among (ids_among went.now))
+            (shape_of_cells (held_at (holdings_of self.old) entity.index)))) }
         ensures room { IfOk result (λ key. moves_to key plan.new.moves + 1 ≤ room_at self.new.tables key) }
         ensures moves { plan.new.moves ≡ plan.old.moves }
         ensures entities { self.new.entities ≡ self.old.entities }
@@ -186,7 +203,8 @@ impl<A: Allocator + Copy> Archetypes<A> {
         requires stands { IsSome (table_at self.old.tables from) }
         requires small { size ≤ 64 }
         requires agree { IsTrue (agrees (known_in self.old.tables) id size) }
-        ensures shape { (f : Shape) → shape_at self.old.tables from ≡ Some f → IfOk result (λ to. shape_at self.new.tables to ≡ Some (with_id f id size)) }
+        ensures shape { (f : Shape) → shape_at self.old.tables from ≡ Some f
+            → IfOk result (λ to. shape_at self.new.tables to ≡ Some (with_id f id size)) }
         ensures room { IfOk result (λ to. moves_to to plan.now + 1 ≤ room_at self.new.tables to) }
         ensures entities { self.new.entities ≡ self.old.entities }
         ensures kept { HasRoomMade ((id, size) ∷ []) self.old self.new }
@@ -202,7 +220,8 @@ impl<A: Allocator + Copy> Archetypes<A> {
         plan: &MovePlan<A>,
     ) -> Result<TableKey, Memory>
         requires stands { IsSome (table_at self.old.tables from) }
-        ensures shape { (f : Shape) → shape_at self.old.tables from ≡ Some f → IfOk result (λ to. shape_at self.new.tables to ≡ Some (without_id f id)) }
+        ensures shape { (f : Shape) → shape_at self.old.tables from ≡ Some f
+            → IfOk result (λ to. shape_at self.new.tables to ≡ Some (without_id f id)) }
         ensures room { IfOk result (λ to. moves_to to plan.now + 1 ≤ room_at self.new.tables to) }
         ensures entities { self.new.entities ≡ self.old.entities }
         ensures kept { HasRoomMade [] self.old self.new }

@@ -4,7 +4,8 @@ ghost use Rattle.std.specs.List.{list_all, prefix_len};
 ghost use Rattle.std.specs.List.Sorted.{IsStrictlySortedBy};
 ghost use Rattle.ecs_id.specs.Id.{id_cmp};
 ghost use Rattle.ecs_model.specs.Map.{IsMap, has_key, keys};
-ghost use Rattle.ecs_archetypes.specs.FactChanges.{begins_before, begins_with, changed_shape, first_entity, ids_among, ids_coming, is_among};
+ghost use Rattle.ecs_archetypes.specs.FactChanges.{begins_before, begins_with, changed_shape, first_entity, ids_among};
+ghost use Rattle.ecs_archetypes.specs.FactChanges.{ids_coming, is_among};
 ghost use Rattle.table_store.specs.Rows.{shape_of_cells};
 
 use crate::entity_facts::EntityFacts;
@@ -105,7 +106,8 @@ pub fn count_going(went: &[FactKey], entity: u32) -> usize
     went.iter().take_while(|key| key.entity() == entity).count()
 }
 
-/// Puts the ids of an entity into a list, without those that go and with those that come. All lists ascend, and no id comes that is held.
+/// Puts the ids of an entity into a list, without those that go and with those that come. All lists ascend, and no id
+/// comes that is held.
 pub fn merge_ids<A: Allocator>(
     ids: &mut Vec<SizedId, A>,
     facts: &EntityFacts<'_, A>,
@@ -116,7 +118,8 @@ pub fn merge_ids<A: Allocator>(
     requires came_ascend { IsMap id_cmp (ids_coming came.now) }
     requires went_ascend { IsStrictlySortedBy id_cmp (ids_among went.now) }
     requires unheld { IsTrue (list_all (λ c. not (has_key id_cmp facts.now c.0)) (ids_coming came.now)) }
-    ensures { OnOk result (ids.new.items ≡ changed_shape (ids_coming came.now) (is_among (ids_among went.now)) (shape_of_cells facts.now)) }
+    ensures { OnOk result (ids.new.items ≡ changed_shape (ids_coming came.now) (is_among (ids_among went.now))
+        (shape_of_cells facts.now)) }
 {
     ids.clear();
     let (mut came, mut went, mut place) = (came, went, 0);

@@ -1,11 +1,13 @@
 //! One entity's ids and values: what it holds is found, and then changed at its place.
-ghost use Rattle.std.specs.Prelude.{◌≡◌, ◌≢◌, ℕ, ◌<◌, ◌≤◌, [], ◌∷◌, Some, IfOk, IfSome, OnOk, OnErr, IsTrue, is_some, length, option_map, replicate, false};
+ghost use Rattle.std.specs.Prelude.{◌≡◌, ◌≢◌, ℕ, ◌<◌, ◌≤◌, [], ◌∷◌, Some, IfOk, IfSome, OnOk, OnErr, IsTrue, is_some};
+ghost use Rattle.std.specs.Prelude.{length, option_map, replicate, false};
 ghost use Rattle.std.specs.Prelude.{true};
 ghost use Rattle.ecs_id.specs.Id.{id_cmp, id_eq};
 ghost use Rattle.ecs_model.specs.Map.{with_value, without};
 ghost use Rattle.entity_index.specs.Entities.{place_of};
 ghost use Rattle.ecs_archetypes.specs.Archetypes.{known_in};
-ghost use Rattle.ecs_archetypes.specs.Holdings.{HoldAlike, agrees, held_at, holds_id, is_settled, with_cells, with_each_written};
+ghost use Rattle.ecs_archetypes.specs.Holdings.{HoldAlike, agrees, held_at, holds_id, is_settled, with_cells};
+ghost use Rattle.ecs_archetypes.specs.Holdings.{with_each_written};
 ghost use Rattle.ecs_archetypes.specs.Housing.{IsHoused, holdings_of};
 ghost use Rattle.ecs_archetypes.specs.Lasting.{TablesLast};
 ghost use Rattle.ecs_archetypes.specs.Moves.{with_moved};
@@ -32,8 +34,8 @@ pub struct FoundFact {
 }
 
 impl<A: Allocator + Copy> Archetypes<A> {
-    /// Gives an entity an id that it doesn't hold, with zeros as its value: its row moves to the table with the id. Answers where it stands
-    /// then.
+    /// Gives an entity an id that it doesn't hold, with zeros as its value: its row moves to the table with the id.
+    /// Answers where it stands then.
     pub fn add(
         &mut self,
         entity: EntityId,
@@ -47,7 +49,8 @@ impl<A: Allocator + Copy> Archetypes<A> {
         requires agree { IsTrue (agrees (known_in self.old.tables) id size) }
         ensures placed { IfOk result (λ now. place_of self.new.entities entity ≡ Some now) }
         ensures added { OnOk result (HoldAlike (holdings_of self.new)
-            (with_cells (holdings_of self.old) entity.index (with_value id_cmp (held_at (holdings_of self.old) entity.index) id (replicate size 0)))) }
+            (with_cells (holdings_of self.old) entity.index (with_value id_cmp
+            (held_at (holdings_of self.old) entity.index) id (replicate size 0)))) }
         ensures refused { OnErr result (HoldAlike (holdings_of self.new) (holdings_of self.old)) }
         ensures kept { TablesLast ((id, size) ∷ []) self.old self.new }
     {
@@ -71,7 +74,8 @@ impl<A: Allocator + Copy> Archetypes<A> {
         requires small { length bytes.now ≤ 64 }
         requires agree { IsTrue (agrees (known_in self.old.tables) id (length bytes.now)) }
         ensures put { OnOk result (HoldAlike (holdings_of self.new)
-            (with_cells (holdings_of self.old) entity.index (with_value id_cmp (held_at (holdings_of self.old) entity.index) id bytes.now))) }
+            (with_cells (holdings_of self.old) entity.index (with_value id_cmp
+            (held_at (holdings_of self.old) entity.index) id bytes.now))) }
         ensures refused { OnErr result (HoldAlike (holdings_of self.new) (holdings_of self.old)) }
         ensures kept { TablesLast ((id, length bytes.now) ∷ []) self.old self.new }
     {
@@ -89,7 +93,8 @@ impl<A: Allocator + Copy> Archetypes<A> {
         requires there { place_of self.old.entities entity ≡ Some place }
         requires held { holds_id (holdings_of self.old) entity.index id ≡ true }
         ensures removed { OnOk result (HoldAlike (holdings_of self.new)
-            (with_cells (holdings_of self.old) entity.index (without id_cmp (held_at (holdings_of self.old) entity.index) (λ i. id_eq i id)))) }
+            (with_cells (holdings_of self.old) entity.index (without id_cmp
+            (held_at (holdings_of self.old) entity.index) (λ i. id_eq i id)))) }
         ensures refused { OnErr result (HoldAlike (holdings_of self.new) (holdings_of self.old)) }
         ensures kept { TablesLast [] self.old self.new }
     {
@@ -98,8 +103,9 @@ impl<A: Allocator + Copy> Archetypes<A> {
         Ok(())
     }
 
-    /// Gives an entity an id that it doesn't hold, with zeros as its value, in the place of one that it holds: its row moves once, to the table
-    /// with the one and without the other. Answers where it stands then. The plan lends its room, and what moves it had are let go.
+    /// Gives an entity an id that it doesn't hold, with zeros as its value, in the place of one that it holds: its row
+    /// moves once, to the table with the one and without the other. Answers where it stands then. The plan lends its
+    /// room, and what moves it had are let go.
     pub fn replace(
         &mut self,
         plan: &mut FactPlan<A>,
@@ -128,13 +134,15 @@ impl<A: Allocator + Copy> Archetypes<A> {
         Ok(self.carry_to(entity, place, to))
     }
 
-    // Moves the row of an entity to another table that has room, and answers where it stands then. The table that it leaves gives memory back.
+    // Moves the row of an entity to another table that has room, and answers where it stands then. The table that it
+    // leaves gives memory back.
     fn carry_to(&mut self, entity: EntityId, place: Place, to: TableKey) -> Place
         requires there { place_of self.old.entities entity ≡ Some place }
         requires apart { place.table ≢ to }
         requires room { 0 < room_at self.old.tables to }
         ensures placed { place_of self.new.entities entity ≡ Some result }
-        ensures held { (f : Shape) → shape_at self.old.tables to ≡ Some f → HoldAlike (holdings_of self.new) (with_moved (holdings_of self.old) entity f) }
+        ensures held { (f : Shape) → shape_at self.old.tables to ≡ Some f
+            → HoldAlike (holdings_of self.new) (with_moved (holdings_of self.old) entity f) }
         ensures alike { StandAlike self.old.tables self.new.tables }
         ensures whole { IsHoused self.new }
     {
@@ -159,10 +167,12 @@ impl<A: Allocator> Archetypes<A> {
         self.tables.set_value(place.table, place.row, id, bytes);
     }
 
-    /// Overwrites the values of an id with data of all entities of a table, by row, with as many bytes, those of one row after another.
+    /// Overwrites the values of an id with data of all entities of a table, by row, with as many bytes, those of one
+    /// row after another.
     pub fn set_column(&mut self, key: TableKey, id: Id, bytes: &[u8])
         requires { AreValues self.old.tables key id bytes.now }
-        ensures written { (t : Archetype) (n : ℕ) → table_at self.old.tables key ≡ Some t → size_in self.old.tables key id ≡ Some n
+        ensures written { (t : Archetype) (n : ℕ) → table_at self.old.tables key ≡ Some t
+            → size_in self.old.tables key id ≡ Some n
             → HoldAlike (holdings_of self.new) (with_each_written id n t.entities bytes.now (holdings_of self.old)) }
         ensures entities { self.new.entities ≡ self.old.entities }
         ensures alike { StandAlike self.old.tables self.new.tables }

@@ -20,8 +20,9 @@
 //! for key in entities.graph().tables_of(any) { .. }
 //! ```
 //!
-//! What a call requires, as an entity that stands in a table, its caller proves: no call fails for want of it. A call that can't get
-//! memory answers `Memory`, and each entity holds what it held; a table that was made on the way may stay.
+//! What a call requires, as an entity that stands in a table, its caller proves: no call fails for want of it. A call
+//! that can't get memory answers `Memory`, and each entity holds what it held; a table that was made on the way may
+//! stay.
 #![tactic(auto, using(ecs_id::specs::Id::id_tests))]
 
 ghost use Rattle.std.specs.Prelude.{◌≡◌, IfOk};
@@ -57,10 +58,10 @@ use std::marker::Model;
 
 /// The entities in their archetype tables.
 ///
-/// An entity is settled once it stands in a table. `settle`, `create`, `add`, `remove` and `replace` touch one row and the last of its table.
-/// `change_facts` takes all memory that its moves need before the first of them. A table that lost most of its rows gives memory back,
-/// after `add`, `remove` and `replace`, after the last move of `change_facts`, and after each death.
-/// Readers take no memory, and look at no more than the ids of one table.
+/// An entity is settled once it stands in a table. `settle`, `create`, `add`, `remove` and `replace` touch one row and
+/// the last of its table. `change_facts` takes all memory that its moves need before the first of them. A table that
+/// lost most of its rows gives memory back, after `add`, `remove` and `replace`, after the last move of `change_facts`,
+/// and after each death. Readers take no memory, and look at no more than the ids of one table.
 #[derive(Drop)]
 pub struct Archetypes<A: Allocator = Global> {
     entities: EntityIndex<A>,

@@ -4,7 +4,8 @@ ghost use Rattle.std.specs.Option.{option_copied};
 ghost use Rattle.ecs_model.specs.Map.{keys};
 ghost use Rattle.entity_index.specs.Entities.{place_of};
 ghost use Rattle.entity_index.specs.Sizes.{live_size};
-ghost use Rattle.ecs_archetypes.specs.Holdings.{AreHoldings, bytes_at, cells_at, entity_at, live_entities, lives, upcoming};
+ghost use Rattle.ecs_archetypes.specs.Holdings.{AreHoldings, bytes_at, cells_at, entity_at, live_entities, lives};
+ghost use Rattle.ecs_archetypes.specs.Holdings.{upcoming};
 ghost use Rattle.ecs_archetypes.specs.Housing.{IsHoused, holdings_of};
 
 use crate::entity_facts::EntityFacts;
@@ -37,7 +38,8 @@ impl<A: Allocator> Archetypes<A> {
 
     /// The facts of a settled entity.
     pub fn facts(&self, entity: EntityId) -> Option<EntityFacts<'_, A>>
-        ensures { result ≡ (if lives (holdings_of self.now) entity then cells_at (holdings_of self.now) entity.index else None) }
+        ensures { result ≡ (if lives (holdings_of self.now) entity then cells_at
+            (holdings_of self.now) entity.index else None) }
     {
         let place = self.entities.place(entity)?;
         let table = self.tables.get(place.table)?;

@@ -30,7 +30,8 @@ pub fn enter<A: Allocator>(
     requires room { 0 < room_at tables.old key }
     ensures sound { IsSound entities.new tables.new }
     ensures held { (f : Shape) → shape_at tables.old key ≡ Some f
-        → HoldAlike (meaning entities.new tables.new) (with_cells (meaning entities.old tables.old) entity.index (zero_cells f)) }
+        → HoldAlike (meaning entities.new tables.new) (with_cells (meaning entities.old tables.old) entity.index
+        (zero_cells f)) }
     ensures alike { StandAlike tables.old tables.new }
     ensures room { TakesRoom key tables.old tables.new }
 {
@@ -38,8 +39,8 @@ pub fn enter<A: Allocator>(
     entities.set_place(entity, Place { table: key, row });
 }
 
-/// Moves the row of an entity to another table, and answers where it stands then. The entity whose row fills the gap stands there from
-/// then on. The memory that the row left behind is kept.
+/// Moves the row of an entity to another table, and answers where it stands then. The entity whose row fills the gap
+/// stands there from then on. The memory that the row left behind is kept.
 pub fn carry<A: Allocator>(
     entities: &mut EntityIndex<A>,
     tables: &mut EnteredTables<A>,
@@ -104,7 +105,8 @@ pub fn leave<A: Allocator>(
     requires there { place_of entities.old entity ≡ Some place }
     requires deletable { IsTrue (is_deletable entities.old entity) }
     ensures sound { IsSound entities.new tables.new }
-    ensures held { HoldAlike (meaning entities.new tables.new) (without_entity (meaning entities.old tables.old) entity.index) }
+    ensures held { HoldAlike (meaning entities.new tables.new) (without_entity
+        (meaning entities.old tables.old) entity.index) }
     ensures alike { StandAlike tables.old tables.new }
 {
     entities.delete(entity);
@@ -126,7 +128,8 @@ pub fn leave_alone<A: Allocator + Copy>(
     requires there { place_of entities.old entity ≡ Some place }
     requires deletable { IsTrue (is_deletable entities.old entity) }
     ensures sound { IsSound entities.new tables.new }
-    ensures held { HoldAlike (meaning entities.new tables.new) (without_entity (meaning entities.old tables.old) entity.index) }
+    ensures held { HoldAlike (meaning entities.new tables.new) (without_entity
+        (meaning entities.old tables.old) entity.index) }
     ensures alike { StandAlike tables.old tables.new }
 {
     leave(entities, tables, entity, place);

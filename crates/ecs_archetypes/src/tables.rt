@@ -1,5 +1,6 @@
 //! Tables come and go together with their entries in the component index.
-ghost use Rattle.std.specs.Prelude.{◌≡◌, ◌↔◌, ◌≤◌, ◌<◌, ◌+◌, ℕ, [], ◌∷◌, length, None, Some, IfOk, OnOk, IsSome, IsTrue, MatchOption, nat_le};
+ghost use Rattle.std.specs.Prelude.{◌≡◌, ◌↔◌, ◌≤◌, ◌<◌, ◌+◌, ℕ, [], ◌∷◌, length, None, Some, IfOk, OnOk, IsSome};
+ghost use Rattle.std.specs.Prelude.{IsTrue, MatchOption, nat_le};
 ghost use Rattle.std.specs.List.{Contains, IsDistinct, list_all};
 ghost use Rattle.std.specs.FinMap as finite;
 ghost use Rattle.component_index.specs.Listings.{listed_in};
@@ -15,8 +16,10 @@ ghost use Rattle.ecs_archetypes.specs.Housing.{AreEntered, HaveGrown};
 ghost use Rattle.ecs_archetypes.specs.Scans.{HasMatch, StandApart};
 ghost use Rattle.ecs_archetypes.specs.Tables.{StandAlike};
 ghost use Rattle.table_store.specs.Kept.{IsMade};
-ghost use Rattle.table_store.specs.Rows.{AreValues, IsStored, Row, row_at, rows_in, with_cell, with_column_at, with_row_at};
-ghost use Rattle.table_store.specs.Store.{Shape, Store, find_in, room_at, shape_at, size_in, table_at, with_id, without_id};
+ghost use Rattle.table_store.specs.Rows.{AreValues, IsStored, Row, row_at, rows_in, with_cell, with_column_at};
+ghost use Rattle.table_store.specs.Rows.{with_row_at};
+ghost use Rattle.table_store.specs.Store.{Shape, Store, find_in, room_at, shape_at, size_in, table_at, with_id};
+ghost use Rattle.table_store.specs.Store.{without_id};
 
 use crate::plans::Room;
 use component_index::{ComponentIndex, ListedKey, Listings, Pattern};
@@ -83,7 +86,8 @@ impl<A: Allocator + Copy> EnteredTables<A> {
         requires stands { IsSome (table_at self.old key) }
         requires small { size ≤ 64 }
         requires agree { IsTrue (agrees (known_in self.old) id size) }
-        ensures shape { (f : Shape) → shape_at self.old key ≡ Some f → IfOk result (λ to. shape_at self.new to ≡ Some (with_id f id size)) }
+        ensures shape { (f : Shape) → shape_at self.old key ≡ Some f
+            → IfOk result (λ to. shape_at self.new to ≡ Some (with_id f id size)) }
         ensures room { IfOk result (λ to. R.wanted room.now to ≤ room_at self.new to) }
         ensures kept { HaveGrown ((id, size) ∷ []) self.old self.new }
     {
@@ -96,7 +100,8 @@ impl<A: Allocator + Copy> EnteredTables<A> {
     /// The table with one id less than this one, with such room.
     pub fn narrower<R: Room>(&mut self, key: TableKey, id: Id, room: &R) -> Result<TableKey, Memory>
         requires stands { IsSome (table_at self.old key) }
-        ensures shape { (f : Shape) → shape_at self.old key ≡ Some f → IfOk result (λ to. shape_at self.new to ≡ Some (without_id f id)) }
+        ensures shape { (f : Shape) → shape_at self.old key ≡ Some f
+            → IfOk result (λ to. shape_at self.new to ≡ Some (without_id f id)) }
         ensures room { IfOk result (λ to. R.wanted room.now to ≤ room_at self.new to) }
         ensures kept { HaveGrown [] self.old self.new }
     {
@@ -143,7 +148,8 @@ impl<A: Allocator> EnteredTables<A> {
 
     /// The lists of tables of all patterns, each of which has a table once.
     pub fn listings(&self) -> Listings<'_, A>
-        ensures listed { (pattern : Asked) (key : TableKey) → Contains (listed_in result pattern) key ↔ HasMatch self.now pattern key }
+        ensures listed { (pattern : Asked) (key : TableKey) → Contains (listed_in result pattern) key
+            ↔ HasMatch self.now pattern key }
         ensures once { (pattern : Asked) → IsDistinct table_eq (listed_in result pattern) }
     {
         self.index.listings()
@@ -155,17 +161,22 @@ impl<A: Allocator> EnteredTables<A> {
         requires data { 0 < length value.now }
         requires size { (f : Shape) → shape_at self.old key ≡ Some f → find_in id f ≡ Some (length value.now) }
         ensures rows { (v : Row) → row_at self.old (record { table = key; row = row }) ≡ Some v
-            → (s : Place) → row_at self.new s ≡ with_row_at (row_at self.old) (record { table = key; row = row }) (with_cell v id value.now) s }
+            → (s : Place) → row_at self.new s ≡ with_row_at (row_at self.old) (record {
+              table = key;
+              row = row;
+            }) (with_cell v id value.now) s }
         ensures alike { StandAlike self.old self.new }
         ensures whole { IsStored self.new }
     {
         self.store.set_value(key, row, id, value);
     }
 
-    /// Overwrites the values of an id with data in all rows of a table, with as many bytes, those of one row after another.
+    /// Overwrites the values of an id with data in all rows of a table, with as many bytes, those of one row after
+    /// another.
     pub fn set_column(&mut self, key: TableKey, id: Id, bytes: &[u8])
         requires { AreValues self.old key id bytes.now }
-        ensures rows { (n : ℕ) → size_in self.old key id ≡ Some n → (p : Place) → row_at self.new p ≡ with_column_at (row_at self.old) key id n bytes.now p }
+        ensures rows { (n : ℕ) → size_in self.old key id ≡ Some n → (p : Place)
+            → row_at self.new p ≡ with_column_at (row_at self.old) key id n bytes.now p }
         ensures alike { StandAlike self.old self.new }
         ensures whole { IsStored self.new }
     {
@@ -190,7 +201,8 @@ impl<A: Allocator> EnteredTables<A> {
     }
 }
 
-// Enters a table if it was made after this serial was the last, and makes its room. One that can't be entered is released again.
+// Enters a table if it was made after this serial was the last, and makes its room. One that can't be entered is
+// released again.
 #[inline(always)]
 fn enter_made<A: Allocator + Copy, R: Room>(
     store: &mut TableStore<A>,
@@ -205,7 +217,8 @@ fn enter_made<A: Allocator + Copy, R: Room>(
     ensures shapes { OnOk result ((q : TableKey) → shape_at store.new q ≡ shape_at store.old q) }
     ensures room { OnOk result (R.wanted room.now key ≤ room_at store.new key) }
     ensures kept { (s : Store) (f added : Shape) → s.last ≡ last → IsMade s f key store.old → AreEntered s index.old
-        → KeepsSizes (known_in s) added (known_in store.old) → HaveGrown added s store.new × AreEntered store.new index.new }
+        → KeepsSizes (known_in s) added (known_in store.old) → HaveGrown added s store.new
+        × AreEntered store.new index.new }
 {
     // (any answer tells that the tables are whole)
     let _ = store.get(key);
@@ -230,8 +243,10 @@ fn enter_new<A: Allocator + Copy>(
     requires fresh { finite.get index.old key ≡ None }
     requires empty { rows_in store.old key ≡ 0 }
     ensures store { OnOk result (store.new ≡ store.old) }
-    ensures kept { (s : Store) (f added : Shape) → s.last < key.serial → IsMade s f key store.old → AreEntered s index.old
-        → KeepsSizes (known_in s) added (known_in store.old) → HaveGrown added s store.new × AreEntered store.new index.new }
+    ensures kept { (s : Store) (f added : Shape) → s.last < key.serial → IsMade s f key store.old
+        → AreEntered s index.old
+        → KeepsSizes (known_in s) added (known_in store.old) → HaveGrown added s store.new
+        × AreEntered store.new index.new }
 {
     let table = store.get(key).unwrap();
     let Ok(()) = index.enter(key, table.ids()) else {

@@ -12,8 +12,8 @@ ghost use Rattle.std.specs.Prelude.{◌≡◌, ◌↔◌, ◌<◌, ◌^◌, IfSo
 use crate::TableKey;
 use std::marker::Model;
 
-/// The key of a table in 12 bytes, as lists hold it, where its serial has no more than 64 bits. A `TableKey` takes 32, since a `u128` lies at a
-/// multiple of 16.
+/// The key of a table in 12 bytes, as lists hold it, where its serial has no more than 64 bits. A `TableKey` takes 32,
+/// since a `u128` lies at a multiple of 16.
 #[derive(Clone, Copy)]
 pub struct ListedKey {
     slot: u32,
@@ -44,7 +44,11 @@ impl Model for ListedKey {
 
     ghost inverse = { λ key. record { slot = key.slot; low = key.serial % 2 ^ 32; high = key.serial / 2 ^ 32 } };
 
-    ghost inverse_ok = { λ k h i. record { slot = k.slot; low = low_given_back k.low k.high h i; high = high_given_back k.low k.high h i } };
+    ghost inverse_ok = { λ k h i. record {
+      slot = k.slot;
+      low = low_given_back k.low k.high h i;
+      high = high_given_back k.low k.high h i;
+    } };
 }
 
 impl ListedKey {

@@ -17,7 +17,8 @@ pub enum SchemaFault {
     BadField,
 }
 
-/// Why a command of a world is refused. Of the refusals that apply, the first in this order is answered, and a refused command changes nothing.
+/// Why a command of a world is refused. Of the refusals that apply, the first in this order is answered, and a refused
+/// command changes nothing.
 #[derive(Clone, Copy, Debug, PartialEq, Eq, Error)]
 pub enum Refusal {
     /// An entity handed in is not alive, or an id mentions an index that is not live.
@@ -73,8 +74,8 @@ pub enum CommandError {
     Memory,
 }
 
-/// Why a command of a session is refused. What is wrong with a new stored query is told in the order BadName, QueryTaken, TooManyStored, and
-/// then the fault of its text. A refused command changes nothing.
+/// Why a command of a session is refused. What is wrong with a new stored query is told in the order BadName,
+/// QueryTaken, TooManyStored, and then the fault of its text. A refused command changes nothing.
 #[derive(Clone, Copy, Debug, PartialEq, Eq, Error)]
 pub enum SessionRefusal {
     /// A refusal of the world.

@@ -1,4 +1,5 @@
-//! The meaning of worlds, queries and scripts, as definitions in `specs/`, and the plain types that they share with the code.
+//! The meaning of worlds, queries and scripts, as definitions in `specs/`, and the plain types that they share with the
+//! code.
 //!
 //! The definitions are what every contract of the engine cites. `laws` has what is proved of them alone.
 #![tactic(auto)]

@@ -10,7 +10,8 @@ use query_model::{is_name_byte, is_reserved};
 /// How many bytes a name has at most.
 const LONGEST_NAME: usize = 64;
 
-/// Whether a text is a name: 1 to 64 letters, digits, `_` and `.`, the first a letter, and none of the words of the query language.
+/// Whether a text is a name: 1 to 64 letters, digits, `_` and `.`, the first a letter, and none of the words of the
+/// query language.
 pub fn is_name(text: &[u8]) -> bool
     ensures { result ≡ is_name text.now }
 {

@@ -1,9 +1,11 @@
 //! What is proved of chains, lines and least sets: each function's contract is a law, and its body does nothing.
 
-ghost use Rattle.ecs_model.specs.ReachLaws.{ChainsAreShort, DepthsAreOfLongestChains, LinesUnfold, ReachComposes, ReachIsComputed, RoundsAreEnough};
+ghost use Rattle.ecs_model.specs.ReachLaws.{ChainsAreShort, DepthsAreOfLongestChains, LinesUnfold, ReachComposes};
+ghost use Rattle.ecs_model.specs.ReachLaws.{ReachIsComputed, RoundsAreEnough};
 ghost use Rattle.ecs_model.specs.ReachLaws.{StepsCloseChains};
 
-/// Law: as many rounds as there are things to be reached, less one, give the least set that is closed under what follows.
+/// Law: as many rounds as there are things to be reached, less one, give the least set that is closed under what
+/// follows.
 pub fn rounds_are_enough()
     ensures { RoundsAreEnough }
 {}
@@ -18,7 +20,8 @@ pub fn reach_composes()
     ensures { ReachComposes }
 {}
 
-/// Law: where there is no cycle, a step more makes one exactly where its end leads back to its start, whether or not other steps go.
+/// Law: where there is no cycle, a step more makes one exactly where its end leads back to its start, whether or not
+/// other steps go.
 pub fn steps_close_chains()
     ensures { StepsCloseChains }
 {}

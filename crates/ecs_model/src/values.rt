@@ -27,7 +27,10 @@ impl Model for Value {
 
     ghost inverse = { λ ns. record { numbers = ns ++ replicate (8 - length ns) (pos 0); count = length ns } };
 
-    ghost inverse_ok = { λ v h i. record { numbers = (given_back v.numbers v.count h).0 i; count = (given_back v.numbers v.count h).1 i } };
+    ghost inverse_ok = { λ v h i. record {
+      numbers = (given_back v.numbers v.count h).0 i;
+      count = (given_back v.numbers v.count h).1 i;
+    } };
 }
 
 impl Value {

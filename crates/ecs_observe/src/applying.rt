@@ -76,10 +76,12 @@ pub enum Answer {
 }
 
 impl<A: Allocator + Copy> Session<A> {
-    /// Carries out a command. It is refused as `EventsPending` while events wait; else as `OfWorld(Dead)` where one of its handles is that of no
-    /// live entity, and as `OfWorld(UnknownName)` where one of its names is nobody's; and else as the call of the same name refuses it.
+    /// Carries out a command. It is refused as `EventsPending` while events wait; else as `OfWorld(Dead)` where one of
+    /// its handles is that of no live entity, and as `OfWorld(UnknownName)` where one of its names is nobody's; and
+    /// else as the call of the same name refuses it.
     pub fn apply(&mut self, command: Command<'_, A>) -> Result<Answer, SessionError>
-        ensures answers { AnswersApply (answered result) (apply (session_of self.old) (order_of command.entry)) self.old self.new }
+        ensures answers { AnswersApply (answered result) (apply (session_of self.old) (order_of command.entry)) self.old
+            self.new }
         ensures lists { ListsApply (order_of command.entry) result self.old self.new }
         ensures goes_on { TablesGoOn (self.old).world.tables (self.new).world.tables }
         ensures stay { OnlyForgottenGo (self.old).world (self.new).world }
@@ -122,7 +124,8 @@ impl<A: Allocator + Copy> Session<A> {
         entity: Reference<'_>,
         id: IdReference<'_>,
     ) -> Result<Option<EntityId>, SessionError>
-        ensures answers { AnswersApply result (apply (session_of self.old) (InWorld (AddTo (seen_reference entity.entry) (seen_id id.entry)))) self.old self.new }
+        ensures answers { AnswersApply result (apply (session_of self.old)
+            (InWorld (AddTo (seen_reference entity.entry) (seen_id id.entry)))) self.old self.new }
         ensures compared { (self.new).compared ≡ (self.old).compared }
         ensures lists { (self.new).stored ≡ (self.old).stored }
         ensures goes_on { TablesGoOn (self.old).world.tables (self.new).world.tables }
@@ -141,7 +144,8 @@ impl<A: Allocator + Copy> Session<A> {
         id: IdReference<'_>,
         values: &[i128],
     ) -> Result<Option<EntityId>, SessionError>
-        ensures answers { AnswersApply result (apply (session_of self.old) (InWorld (SetIn (seen_reference entity.entry) (seen_id id.entry) values.now))) self.old
+        ensures answers { AnswersApply result (apply (session_of self.old)
+            (InWorld (SetIn (seen_reference entity.entry) (seen_id id.entry) values.now))) self.old
             self.new }
         ensures compared { (self.new).compared ≡ (self.old).compared }
         ensures lists { (self.new).stored ≡ (self.old).stored }
@@ -160,7 +164,8 @@ impl<A: Allocator + Copy> Session<A> {
         entity: Reference<'_>,
         id: IdReference<'_>,
     ) -> Result<Option<EntityId>, SessionError>
-        ensures answers { AnswersApply result (apply (session_of self.old) (InWorld (RemoveFrom (seen_reference entity.entry) (seen_id id.entry)))) self.old
+        ensures answers { AnswersApply result (apply (session_of self.old)
+            (InWorld (RemoveFrom (seen_reference entity.entry) (seen_id id.entry)))) self.old
             self.new }
         ensures compared { (self.new).compared ≡ (self.old).compared }
         ensures lists { (self.new).stored ≡ (self.old).stored }
@@ -175,7 +180,8 @@ impl<A: Allocator + Copy> Session<A> {
 
     /// Deletes an entity.
     fn delete_one(&mut self, entity: Reference<'_>) -> Result<Option<EntityId>, SessionError>
-        ensures answers { AnswersApply result (apply (session_of self.old) (InWorld (DeleteOne (seen_reference entity.entry)))) self.old self.new }
+        ensures answers { AnswersApply result (apply (session_of self.old)
+            (InWorld (DeleteOne (seen_reference entity.entry)))) self.old self.new }
         ensures compared { (self.new).compared ≡ (self.old).compared }
         ensures lists { (self.new).stored ≡ (self.old).stored }
         ensures goes_on { TablesGoOn (self.old).world.tables (self.new).world.tables }

@@ -15,7 +15,8 @@ use ecs_schema::laws::bytes_are_a_value;
 use ecs_world::World;
 use std::alloc::{AllocError, Allocator};
 
-/// The numbers of a value take at most so many bytes: eight of up to twenty digits, each with a sign and what stands before it.
+/// The numbers of a value take at most so many bytes: eight of up to twenty digits, each with a sign and what stands
+/// before it.
 pub const MOST_TEXT: usize = 176;
 
 /// Writes the facts of a live entity, in the order of ids.
@@ -25,7 +26,8 @@ pub fn write_facts<A: Allocator>(
     out: &mut Vec<u8, A>,
 ) -> Result<(), AllocError>
     requires { IsTrue (is_alive world.now.state entity) }
-    ensures { OnOk result (out.new.items ≡ out.old.items ++ flat_map (fact_text world.now.state entity.index) (ids_of world.now.state entity.index)) }
+    ensures { OnOk result (out.new.items ≡ out.old.items ++ flat_map (fact_text world.now.state entity.index)
+        (ids_of world.now.state entity.index)) }
 {
     let facts = world.facts(entity).unwrap();
     out.extend_from_slice(b" [")?;
@@ -87,7 +89,8 @@ fn write_held<A: Allocator>(
     write_bytes(world, id, bytes, out)
 }
 
-/// Writes the value that the bytes of a fact mean, and what stands between two facts. Where there are no bytes, their type needs no look-up.
+/// Writes the value that the bytes of a fact mean, and what stands between two facts. Where there are no bytes, their
+/// type needs no look-up.
 #[inline(always)]
 fn write_bytes<A: Allocator>(
     world: &World<A>,
@@ -116,7 +119,8 @@ fn write_ended<A: Allocator>(
     out: &mut Vec<u8, A>,
 ) -> Result<(), AllocError>
     requires { length bytes.now ≡ size_of schema.now }
-    ensures { OnOk result (out.new.items ≡ out.old.items ++ value_text (Some (values_in schema.now bytes.now)) ++ codes "] [") }
+    ensures { OnOk result (out.new.items ≡ out.old.items ++ value_text (Some (values_in schema.now bytes.now))
+        ++ codes "] [") }
 {
     let mut text = [b'['; MOST_TEXT + 3];
     text[MOST_TEXT + 1] = b' ';
@@ -139,7 +143,8 @@ fn write_fields<A: Allocator>(
     out.extend_from_slice(&text[start..])
 }
 
-/// Writes the value that bytes mean, as `write_value` does of a fact, right before the place `MOST_TEXT` of a text, and answers where it starts.
+/// Writes the value that bytes mean, as `write_value` does of a fact, right before the place `MOST_TEXT` of a text, and
+/// answers where it starts.
 pub fn put_fields<A: Allocator>(schema: &Schema<A>, bytes: &[u8], text: &mut [u8]) -> usize
     requires size { length bytes.now ≡ size_of schema.now }
     requires room { 176 ≤ length text.old }

@@ -1,7 +1,9 @@
-//! The fields of components, and what a value of a component is in memory: its fields in order, little end first, without padding.
+//! The fields of components, and what a value of a component is in memory: its fields in order, little end first,
+//! without padding.
 #![tactic(auto)]
 
-ghost use Rattle.std.specs.Prelude.{◌≡◌, ◌≢◌, ◌<◌, ◌≤◌, ◌↔◌, true, false, length, Some, None, IsTrue, IfOk, OnOk, OnErr, IsErrOf, slice_get};
+ghost use Rattle.std.specs.Prelude.{◌≡◌, ◌≢◌, ◌<◌, ◌≤◌, ◌↔◌, true, false, length, Some, None, IsTrue, IfOk, OnOk};
+ghost use Rattle.std.specs.Prelude.{OnErr, IsErrOf, slice_get};
 ghost use Rattle.ecs_model.specs.Schema.{all_fit, schema_fault};
 ghost use Rattle.ecs_model.specs.Bytes.{size_of, value_bytes, values_in};
 ghost use Rattle.ecs_model.specs.declared.faults.SchemaFault.{SchemaFault};

@@ -92,8 +92,9 @@ impl<A: Allocator> DataIds<A> {
         }
     }
 
-    /// Where an id stands, for many ids in turn: the search begins at `from`, 0 for the first id, and answers where that of the next one is to
-    /// begin. Ids that ascend take one pass over these together. Any other `from` is only slower.
+    /// Where an id stands, for many ids in turn: the search begins at `from`, 0 for the first id, and answers where
+    /// that of the next one is to begin. Ids that ascend take one pass over these together. Any other `from` is only
+    /// slower.
     pub(crate) fn find_from(&self, from: usize, id: Id) -> (usize, Option<usize>)
         ensures index { result.1 ≡ index_in self.now id }
         ensures within { IfSome result.1 (λ index. index < length self.now) }

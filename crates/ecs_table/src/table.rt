@@ -1,10 +1,12 @@
 //! The table.
-ghost use Rattle.std.specs.Prelude.{◌≡◌, ℕ, ◌*◌, ◌-◌, ◌<◌, ◌≤◌, max, min, IfOk, IfSome, OnOk, OnErr, IsOk, MatchOption, length, List, map, None, option_map};
+ghost use Rattle.std.specs.Prelude.{◌≡◌, ℕ, ◌*◌, ◌-◌, ◌<◌, ◌≤◌, max, min, IfOk, IfSome, OnOk, OnErr, IsOk, MatchOption};
+ghost use Rattle.std.specs.Prelude.{length, List, map, None, option_map};
 ghost use Rattle.std.specs.Prelude.{replicate, Some, option_copied, slice_get, slice_index, slice_index_or, slice_set};
 ghost use Rattle.std.specs.List.{zip};
 ghost use Rattle.raw_column.specs.Contents.{column_at};
 ghost use Rattle.ecs_id.specs.Id.{Id};
-ghost use Rattle.ecs_table.specs.Archetype.{byte_size, column_of, empty_table, moved_into, replaced, size_of, value_of, values_at, with_column, with_moved};
+ghost use Rattle.ecs_table.specs.Archetype.{byte_size, column_of, empty_table, moved_into, replaced, size_of, value_of};
+ghost use Rattle.ecs_table.specs.Archetype.{values_at, with_column, with_moved};
 ghost use Rattle.ecs_table.specs.Archetype.{with_row, with_value, without_row, HaveEqualSizes, IsSound};
 
 use crate::entity_list::EntityList;
@@ -23,8 +25,8 @@ const ENTITY_BYTES: usize = 8;
 
 /// The rows of the entities that have exactly the same ids.
 ///
-/// Each id with data has a column with a value for each row. A tag has none. Only `new`, `of_tags` and `reserve` take memory, and `shrink_to`
-/// gives it back.
+/// Each id with data has a column with a value for each row. A tag has none. Only `new`, `of_tags` and `reserve` take
+/// memory, and `shrink_to` gives it back.
 #[derive(Drop)]
 pub struct Table<A: Allocator = Global> {
     // First what is read of the table of an entity: its ids, and a column for each id with data.
@@ -90,10 +92,11 @@ impl<A: Allocator + Copy> Table<A> {
         Ok(())
     }
 
-    /// Keeps room for `room` more rows at most, and gives memory back where the rows fill less than three quarters of it.
+    /// Keeps room for `room` more rows at most, and gives memory back where the rows fill less than three quarters of
+    /// it.
     ///
-    /// Without rows no more than a few hundred bytes stay. A smaller block that is refused is no error. Where `room` is at most an eighth
-    /// of the rows, the cost is a constant for each row that came or went.
+    /// Without rows no more than a few hundred bytes stay. A smaller block that is refused is no error. Where `room` is
+    /// at most an eighth of the rows, the cost is a constant for each row that came or went.
     pub fn shrink_to(&mut self, room: usize)
         ensures { self.new ≡ record self.old { room = min self.old.room room } }
     {
@@ -162,7 +165,8 @@ impl<A: Allocator> Table<A> {
     /// The bytes of an id's value at a row, None where the table has no data of the id.
     pub fn value(&self, row: usize, id: Id) -> Option<&[u8]>
         requires { row < length self.now.entities }
-        ensures value { MatchOption result (value_of self.now row id ≡ None) (λ bytes. value_of self.now row id ≡ Some bytes.now) }
+        ensures value { MatchOption result (value_of self.now row id ≡ None)
+            (λ bytes. value_of self.now row id ≡ Some bytes.now) }
         ensures size { IfSome result (λ bytes. size_of self.now id ≡ Some (length bytes.now)) }
     {
         match self.values.find(id) {
@@ -184,7 +188,8 @@ impl<A: Allocator> Table<A> {
     /// `value`, with where the search of the id is to begin and where that of the next one.
     fn value_from(&self, from: usize, row: usize, id: Id) -> (usize, Option<&[u8]>)
         requires { row < length self.now.entities }
-        ensures { MatchOption result.1 (value_of self.now row id ≡ None) (λ bytes. value_of self.now row id ≡ Some bytes.now) }
+        ensures { MatchOption result.1 (value_of self.now row id ≡ None)
+            (λ bytes. value_of self.now row id ≡ Some bytes.now) }
     {
         let (next, found) = self.values.find_from(from, id);
         match found {
@@ -214,7 +219,8 @@ impl<A: Allocator> Table<A> {
         }
     }
 
-    /// Overwrites the values of an id in all rows, with as many bytes, those of one row after another. Of an id without data it does nothing.
+    /// Overwrites the values of an id in all rows, with as many bytes, those of one row after another. Of an id without
+    /// data it does nothing.
     pub fn set_column(&mut self, id: Id, bytes: &[u8])
         requires { IfSome (size_of self.old id) (λ size. length bytes.now ≡ length self.old.entities * size) }
         ensures { self.new ≡ with_column self.old id bytes.now }
@@ -249,9 +255,11 @@ impl<A: Allocator> Table<A> {
         ensures came { target.new ≡ with_moved target.old self.old row }
 
         // What this says of each id: with data in both tables it keeps its value, and without data here it has zeros.
-        ensures kept { (i : Id) (n : ℕ) (bytes : List ℕ) → size_of target.old i ≡ Some n → value_of self.old row i ≡ Some bytes
+        ensures kept { (i : Id) (n : ℕ) (bytes : List ℕ) → size_of target.old i ≡ Some n
+            → value_of self.old row i ≡ Some bytes
             → value_of target.new result.0 i ≡ Some bytes }
-        ensures zeros { (i : Id) → value_of self.old row i ≡ None → value_of target.new result.0 i ≡ option_map (λ n. replicate n 0) (size_of target.old i) }
+        ensures zeros { (i : Id) → value_of self.old row i ≡ None → value_of target.new result.0 i
+            ≡ option_map (λ n. replicate n 0) (size_of target.old i) }
     {
         let last = target.entities.len();
         target.push_row(self, row);
@@ -264,7 +272,8 @@ impl<A: Allocator> Table<A> {
         requires room { 0 < self.old.room }
         requires sizes { HaveEqualSizes source.now self.old }
         ensures came { self.new ≡ with_moved self.old source.now row }
-        ensures kept { (i : Id) (n : ℕ) (bytes : List ℕ) → size_of self.old i ≡ Some n → value_of source.now row i ≡ Some bytes
+        ensures kept { (i : Id) (n : ℕ) (bytes : List ℕ) → size_of self.old i ≡ Some n
+            → value_of source.now row i ≡ Some bytes
             → value_of self.new (length self.old.entities) i ≡ Some bytes }
         ensures zeros { (i : Id) → value_of source.now row i ≡ None
             → value_of self.new (length self.old.entities) i ≡ option_map (λ n. replicate n 0) (size_of self.old i) }
@@ -276,7 +285,8 @@ impl<A: Allocator> Table<A> {
     }
 }
 
-/// Copies the values of a row of a table over those in the last row of these columns, where the table has data of a column's id.
+/// Copies the values of a row of a table over those in the last row of these columns, where the table has data of a
+/// column's id.
 pub(crate) fn copy_values<A: Allocator>(
     columns: &mut Block<A>,
     ids: &[Id],

@@ -1,8 +1,10 @@
 //! The ids with data of a table and their columns, for which a table of tags has no memory.
-ghost use Rattle.std.specs.Prelude.{◌≡◌, ℕ, ◌+◌, ◌-◌, ◌*◌, ◌^◌, ◌<◌, ◌≤◌, [], length, map, min, nat_lt, slice_get, slice_index, IfOk, IfSome, IsOk, OnErr};
+ghost use Rattle.std.specs.Prelude.{◌≡◌, ℕ, ◌+◌, ◌-◌, ◌*◌, ◌^◌, ◌<◌, ◌≤◌, [], length, map, min, nat_lt, slice_get};
+ghost use Rattle.std.specs.Prelude.{slice_index, IfOk, IfSome, IsOk, OnErr};
 ghost use Rattle.std.specs.Prelude.{OnOk, Some};
 ghost use Rattle.std.specs.List.{concat, filter, zip};
-ghost use Rattle.raw_column.specs.Contents.{capacity_of, column_at, empty_contents, row_bytes, with_column, with_item_in, with_zeros, without_row};
+ghost use Rattle.raw_column.specs.Contents.{capacity_of, column_at, empty_contents, row_bytes, with_column};
+ghost use Rattle.raw_column.specs.Contents.{with_item_in, with_zeros, without_row};
 ghost use Rattle.ecs_table.specs.Archetype.{ids_with_data, index_in, replaced, value_of};
 
 use crate::columns::{ids_with_data, sizes_with_data};
@@ -98,7 +100,8 @@ impl<A: Allocator> TableData<A> {
         }
     }
 
-    /// The columns of many ids in turn: the search begins at `from`, and answers where that of the next one is to begin.
+    /// The columns of many ids in turn: the search begins at `from`, and answers where that of the next one is to
+    /// begin.
     #[inline(always)]
     #[tactic(auto, unfolding(crate::specs::Archetype::index_in))]
     pub(crate) fn find_from(&self, from: usize, id: Id) -> (usize, Option<usize>)

@@ -1,6 +1,7 @@
 //! Facts that come and go with an added one, copies from a new base among them, and those that go with a removed one.
 
-ghost use Rattle.std.specs.Prelude.{◌≡◌, ◌<◌, [], ◌∷◌, false, true, None, All, IfOk, IsTrue, OnErr, OnOk, filter, length, nat_le};
+ghost use Rattle.std.specs.Prelude.{◌≡◌, ◌<◌, [], ◌∷◌, false, true, None, All, IfOk, IsTrue, OnErr, OnOk, filter};
+ghost use Rattle.std.specs.Prelude.{length, nat_le};
 ghost use Rattle.std.specs.List.{list_all, list_any};
 ghost use Rattle.ecs_archetypes.specs.Staying.{TablesStay};
 ghost use Rattle.ecs_id.specs.Id.{mentioned};
@@ -38,7 +39,8 @@ impl<A: Allocator + Copy> World<A> {
         requires alive { is_alive self.old.state entity ≡ true }
         requires mentions { list_all (is_live self.old.state) (mentioned id) ≡ true }
         ensures same { self.new ≡ self.old }
-        ensures tells { OnOk result (TellsAddition self.old.state (entity.index, id) additions.new.base additions.new.added.items additions.new.copies.items
+        ensures tells { OnOk result (TellsAddition self.old.state (entity.index, id) additions.new.base
+            additions.new.added.items additions.new.copies.items
             additions.new.came.items additions.new.went.items) }
         ensures live { OnOk result (All (IsOfLive (entities self.old.state)) additions.new.added.items) }
         ensures copies_live { OnOk result (All (IsOfLive (entities self.old.state)) additions.new.copies.items) }
@@ -51,8 +53,8 @@ impl<A: Allocator + Copy> World<A> {
         Ok(())
     }
 
-    /// Why a fact of live entities is not added with what it brings, where nothing comes to what is built in. The world stays as it is, and
-    /// where memory is refused nothing is told.
+    /// Why a fact of live entities is not added with what it brings, where nothing comes to what is built in. The world
+    /// stays as it is, and where memory is refused nothing is told.
     pub(crate) fn addition_refusal(
         &mut self,
         entity: EntityId,
@@ -61,7 +63,8 @@ impl<A: Allocator + Copy> World<A> {
     ) -> Result<Option<Refusal>, Memory>
         requires alive { is_alive self.old.state entity ≡ true }
         requires mentions { list_all (is_live self.old.state) (mentioned id) ≡ true }
-        requires tells { TellsAddition self.old.state (entity.index, id) additions.now.base additions.now.added.items additions.now.copies.items
+        requires tells { TellsAddition self.old.state (entity.index, id) additions.now.base additions.now.added.items
+            additions.now.copies.items
             additions.now.came.items additions.now.went.items }
         requires live { All (IsOfLive (entities self.old.state)) additions.now.added.items }
         requires copies_live { All (IsOfLive (entities self.old.state)) additions.now.copies.items }
@@ -84,8 +87,8 @@ impl<A: Allocator + Copy> World<A> {
         ))
     }
 
-    /// Brings what comes with an added fact, copies with the values of the base, and takes what gives way to it. All growth comes first. The
-    /// command is not counted yet.
+    /// Brings what comes with an added fact, copies with the values of the base, and takes what gives way to it. All
+    /// growth comes first. The command is not counted yet.
     pub(crate) fn bring(
         &mut self,
         entity: EntityId,
@@ -93,12 +96,15 @@ impl<A: Allocator + Copy> World<A> {
         additions: &Additions<A>,
     ) -> Result<(), Memory>
         requires judged { first_reason (reasons self.old.state (Add entity id)) ≡ None }
-        requires tells { TellsAddition self.old.state (entity.index, id) additions.now.base additions.now.added.items additions.now.copies.items
+        requires tells { TellsAddition self.old.state (entity.index, id) additions.now.base additions.now.added.items
+            additions.now.copies.items
             additions.now.came.items additions.now.went.items }
-        ensures brought { OnOk result (self.new.state ≡ with_facts self.old.state (facts_after_add self.old.state entity.index id)) }
+        ensures brought { OnOk result (self.new.state ≡ with_facts self.old.state
+            (facts_after_add self.old.state entity.index id)) }
         ensures refused { OnErr result (self.new.state ≡ self.old.state) }
         ensures goes_on { TablesGoOn self.old.tables self.new.tables }
-        ensures stay { OnOk result (TablesStay (list_any (gets_no_data (sized_by self.old.state additions.now.came.items))) self.old.tables self.new.tables) }
+        ensures stay { OnOk result (TablesStay (list_any (gets_no_data
+            (sized_by self.old.state additions.now.came.items))) self.old.tables self.new.tables) }
         ensures kept { OnErr result (NoneGo self.old self.new) }
     {
         self.keeps();
@@ -109,7 +115,8 @@ impl<A: Allocator + Copy> World<A> {
         Ok(())
     }
 
-    /// Moves the rows for that: all that comes has zeros, copies too. What memory this takes is got before the first row moves.
+    /// Moves the rows for that: all that comes has zeros, copies too. What memory this takes is got before the first
+    /// row moves.
     fn bring_new(
         &mut self,
         entity: EntityId,
@@ -117,12 +124,15 @@ impl<A: Allocator + Copy> World<A> {
         additions: &Additions<A>,
     ) -> Result<(), Memory>
         requires judged { first_reason (reasons self.old.state (Add entity id)) ≡ None }
-        requires tells { TellsAddition self.old.state (entity.index, id) additions.now.base additions.now.added.items additions.now.copies.items
+        requires tells { TellsAddition self.old.state (entity.index, id) additions.now.base additions.now.added.items
+            additions.now.copies.items
             additions.now.came.items additions.now.went.items }
-        ensures brought { OnOk result (self.new.state ≡ with_facts self.old.state (facts_with_new self.old.state entity.index id)) }
+        ensures brought { OnOk result (self.new.state ≡ with_facts self.old.state
+            (facts_with_new self.old.state entity.index id)) }
         ensures refused { OnErr result (self.new.state ≡ self.old.state) }
         ensures goes_on { TablesGoOn self.old.tables self.new.tables }
-        ensures stay { OnOk result (TablesStay (list_any (gets_no_data (sized_by self.old.state additions.now.came.items))) self.old.tables self.new.tables) }
+        ensures stay { OnOk result (TablesStay (list_any (gets_no_data
+            (sized_by self.old.state additions.now.came.items))) self.old.tables self.new.tables) }
         ensures kept { OnErr result (NoneGo self.old self.new) }
     {
         let _ = (entity, id);
@@ -134,7 +144,8 @@ impl<A: Allocator + Copy> World<A> {
         Ok(())
     }
 
-    /// Gives each of these facts of an entity the value that the base's fact of the same id has. It takes no memory, and cannot fail.
+    /// Gives each of these facts of an entity the value that the base's fact of the same id has. It takes no memory,
+    /// and cannot fail.
     fn write_copies(&mut self, entity: EntityId, base: u32, copies: &[FactKey])
         requires { AreCopies self.old.state entity base copies.now }
         ensures state { self.new.state ≡ with_copies self.old.state base copies.now }
@@ -205,7 +216,8 @@ impl<A: Allocator + Copy> World<A> {
         went: &mut Vec<FactKey, A>,
     ) -> Result<(), Memory>
         requires alive { is_alive self.now.state entity ≡ true }
-        ensures { OnOk result (went.new.items ≡ filter (λ k. list_any (key_eq k) (removed self.now.state entity.index id)) (keys self.now.state.facts)) }
+        ensures { OnOk result (went.new.items ≡ filter (λ k. list_any (key_eq k)
+            (removed self.now.state entity.index id)) (keys self.now.state.facts)) }
     {
         let links = Links::new(&self.archetypes, self.archetypes.size());
         let fact = FactKey::new(entity.index, id);
@@ -216,8 +228,10 @@ impl<A: Allocator + Copy> World<A> {
     /// Takes the facts that go with a removed one. The command is not counted yet.
     pub(crate) fn take(&mut self, entity: EntityId, id: Id, went: &[FactKey]) -> Result<(), Memory>
         requires judged { first_reason (reasons self.old.state (Remove entity id)) ≡ None }
-        requires listed { went.now ≡ filter (λ k. list_any (key_eq k) (removed self.old.state entity.index id)) (keys self.old.state.facts) }
-        ensures taken { OnOk result (self.new.state ≡ with_facts self.old.state (facts_after_remove self.old.state entity.index id)) }
+        requires listed { went.now ≡ filter (λ k. list_any (key_eq k) (removed self.old.state entity.index id))
+            (keys self.old.state.facts) }
+        ensures taken { OnOk result (self.new.state ≡ with_facts self.old.state
+            (facts_after_remove self.old.state entity.index id)) }
         ensures refused { OnErr result (self.new.state ≡ self.old.state) }
         ensures goes_on { TablesGoOn self.old.tables self.new.tables }
         ensures stay { NoneGo self.old self.new }

@@ -64,7 +64,8 @@ impl<A: Allocator + Copy> World<A> {
 
     /// Makes an entity with a name and fields, which holds the tag `Component`.
     pub fn component(&mut self, name: &str, schema: Schema<A>) -> Result<Changes<A>, CommandError>
-        ensures answers { AnswersStep result (step self.old.state (Component name.now schema)) self.old.state self.new.state }
+        ensures answers { AnswersStep result (step self.old.state (Component name.now schema)) self.old.state
+            self.new.state }
         ensures goes_on { TablesGoOn self.old.tables self.new.tables }
         ensures stay { NoneGo self.old self.new }
     {

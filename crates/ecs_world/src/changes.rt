@@ -63,7 +63,8 @@ struct Lists<A: Allocator> {
     written: Option<FactKey>,
 }
 
-/// Lists of what changes. A command makes them before it changes its world, and fills them after, which takes no more memory.
+/// Lists of what changes. A command makes them before it changes its world, and fills them after, which takes no more
+/// memory.
 #[derive(Drop)]
 pub(crate) struct ChangeLists<A: Allocator> {
     lists: Box<Lists<A>, A>,
@@ -114,8 +115,8 @@ impl<A: Allocator> ChangeLists<A> {
     }
 }
 
-/// A fact that came, and the one that went in its place. (They stand in a block, since two facts would make what every command tells larger,
-/// and slower to hand on.)
+/// A fact that came, and the one that went in its place. (They stand in a block, since two facts would make what every
+/// command tells larger, and slower to hand on.)
 #[derive(Drop)]
 pub(crate) struct Replaced {
     pub(crate) came: FactKey,
@@ -129,7 +130,8 @@ pub(crate) struct Fallen<A: Allocator> {
     pub(crate) went: Option<FactKey>,
 }
 
-/// What a command tells, which most of them tell of one fact or one entity without memory. What takes memory is made before the world changes.
+/// What a command tells, which most of them tell of one fact or one entity without memory. What takes memory is made
+/// before the world changes.
 #[derive(Drop)]
 pub(crate) enum Told<A: Allocator> {
     Nothing,

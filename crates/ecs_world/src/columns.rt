@@ -31,7 +31,8 @@ pub enum ColumnFault {
     /// The id has no fields. What built-in entities hold has none.
     #[error("the id has no fields")]
     NoData,
-    /// A `set` may bring other facts: the id's component or relationship has a pair of With, or its relationship is Symmetric.
+    /// A `set` may bring other facts: the id's component or relationship has a pair of With, or its relationship is
+    /// Symmetric.
     #[error("a value of this id may bring other facts")]
     Brings,
     /// The bytes are not one value for each row.
@@ -43,10 +44,11 @@ pub enum ColumnFault {
 }
 
 impl<A: Allocator> World<A> {
-    /// Sets the value of an id for each entity of a table, by row: the bytes of one value stand behind those of another, as in the column
-    /// of a chunk.
+    /// Sets the value of an id for each entity of a table, by row: the bytes of one value stand behind those of
+    /// another, as in the column of a chunk.
     ///
-    /// It is as one `set` of each of them in turn, and counted as so many commands. It looks nothing up for a row, and takes no memory.
+    /// It is as one `set` of each of them in turn, and counted as so many commands. It looks nothing up for a row, and
+    /// takes no memory.
     pub fn set_column(&mut self, key: TableKey, id: Id, bytes: &[u8]) -> Result<(), ColumnFault>
         ensures set { OnOk result (IsColumnSet self.old key id bytes.now self.new.state) }
         ensures judged { MatchResult result (λ _. column_fault self.old key id (length bytes.now) ≡ None)

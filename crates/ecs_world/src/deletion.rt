@@ -1,6 +1,7 @@
 //! `delete`, with all who fall with an entity and all facts that mention these.
 
-ghost use Rattle.std.specs.Prelude.{◌≡◌, ◌==◌, ◌↔◌, ◌<◌, ℕ, List, None, Some, false, true, Contains, IfErr, IfOk, OnErr, OnOk, filter, length};
+ghost use Rattle.std.specs.Prelude.{◌≡◌, ◌==◌, ◌↔◌, ◌<◌, ℕ, List, None, Some, false, true, Contains, IfErr, IfOk};
+ghost use Rattle.std.specs.Prelude.{OnErr, OnOk, filter, length};
 ghost use Rattle.std.specs.List.{list_any};
 ghost use Rattle.std.specs.Ordering.{nat_cmp};
 ghost use Rattle.std.specs.FinMap as finite;
@@ -35,8 +36,8 @@ use std::collections::BTreeMap;
 use std::{mem, slice};
 
 impl<A: Allocator + Copy> World<A> {
-    /// Deletes an entity, and with it all who fall by the cleanup rules of what they hold: OnDelete and OnDeleteTarget with Delete. All facts
-    /// that mention one of these go, and so do their names and fields.
+    /// Deletes an entity, and with it all who fall by the cleanup rules of what they hold: OnDelete and OnDeleteTarget
+    /// with Delete. All facts that mention one of these go, and so do their names and fields.
     pub fn delete(&mut self, entity: EntityId) -> Result<Changes<A>, CommandError>
         ensures answers { AnswersStep result (step self.old.state (Delete entity)) self.old.state self.new.state }
         ensures goes_on { TablesGoOn self.old.tables self.new.tables }
@@ -79,7 +80,8 @@ impl<A: Allocator + Copy> World<A> {
         Ok(changes)
     }
 
-    /// Finds all who are deleted with an entity and what goes with them, or why they can't be deleted. The world stays as it is.
+    /// Finds all who are deleted with an entity and what goes with them, or why they can't be deleted. The world stays
+    /// as it is.
     fn find_deletion(
         &mut self,
         entity: EntityId,
@@ -88,11 +90,15 @@ impl<A: Allocator + Copy> World<A> {
         requires alive { is_alive self.old.state entity ≡ true }
         ensures same { self.new ≡ self.old }
         ensures dead { OnOk result (deletion.new.dead.items ≡ keys (deleted self.old.state entity.index)) }
-        ensures lost { OnOk result (deletion.new.lost.items ≡ filter (is_lost self.old.state entity.index) (keys self.old.state.facts)) }
-        ensures went { OnOk result (deletion.new.went.items ≡ filter (mentions_gone self.old.state (deleted self.old.state entity.index))
+        ensures lost { OnOk result (deletion.new.lost.items ≡ filter (is_lost self.old.state entity.index)
             (keys self.old.state.facts)) }
-        ensures judged { OnOk result (first_reason (delete_reasons self.old.state (deleted self.old.state entity.index)) ≡ None) }
-        ensures refused { IfErr result (TellsRefusal (first_reason (delete_reasons self.old.state (deleted self.old.state entity.index)))) }
+        ensures went { OnOk result (deletion.new.went.items ≡ filter
+            (mentions_gone self.old.state (deleted self.old.state entity.index))
+            (keys self.old.state.facts)) }
+        ensures judged { OnOk result (first_reason (delete_reasons self.old.state (deleted self.old.state entity.index))
+            ≡ None) }
+        ensures refused { IfErr result (TellsRefusal (first_reason (delete_reasons self.old.state
+            (deleted self.old.state entity.index)))) }
     {
         let size = self.archetypes.size();
         if self.scratch.reserve(size).is_err() {
@@ -171,11 +177,14 @@ impl<A: Allocator + Copy> World<A> {
     fn bury(&mut self, entity: EntityId, deletion: &Deletion<A>) -> Result<(), Memory>
         requires judged { first_reason (reasons self.old.state (Delete entity)) ≡ None }
         requires dead { deletion.now.dead.items ≡ keys (deleted self.old.state entity.index) }
-        requires lost { deletion.now.lost.items ≡ filter (is_lost self.old.state entity.index) (keys self.old.state.facts) }
-        ensures buried { OnOk result (self.new.state ≡ without_entities self.old.state (deleted self.old.state entity.index)) }
+        requires lost { deletion.now.lost.items ≡ filter (is_lost self.old.state entity.index)
+            (keys self.old.state.facts) }
+        ensures buried { OnOk result (self.new.state ≡ without_entities self.old.state
+            (deleted self.old.state entity.index)) }
         ensures refused { OnErr result (self.new.state ≡ self.old.state) }
         ensures goes_on { TablesGoOn self.old.tables self.new.tables }
-        ensures stay { OnOk result (TablesStay (list_any (mentions_one deletion.now.dead.items)) self.old.tables self.new.tables) }
+        ensures stay { OnOk result (TablesStay (list_any (mentions_one deletion.now.dead.items)) self.old.tables
+            self.new.tables) }
         ensures kept { OnErr result (NoneGo self.old self.new) }
     {
         if let [index] = deletion.dead.as_slice()
@@ -197,12 +206,15 @@ impl<A: Allocator + Copy> World<A> {
     ) -> Result<(), Memory>
         requires judged { first_reason (reasons self.old.state (Delete entity)) ≡ None }
         requires dead { deletion.now.dead.items ≡ keys (deleted self.old.state entity.index) }
-        requires lost { deletion.now.lost.items ≡ filter (is_lost self.old.state entity.index) (keys self.old.state.facts) }
+        requires lost { deletion.now.lost.items ≡ filter (is_lost self.old.state entity.index)
+            (keys self.old.state.facts) }
         requires listed { dead.now ≡ entities_at self.old.state deletion.now.dead.items }
-        ensures buried { OnOk result (self.new.state ≡ without_entities self.old.state (deleted self.old.state entity.index)) }
+        ensures buried { OnOk result (self.new.state ≡ without_entities self.old.state
+            (deleted self.old.state entity.index)) }
         ensures refused { OnErr result (self.new.state ≡ self.old.state) }
         ensures goes_on { TablesGoOn self.old.tables self.new.tables }
-        ensures stay { OnOk result (TablesStay (list_any (mentions_one deletion.now.dead.items)) self.old.tables self.new.tables) }
+        ensures stay { OnOk result (TablesStay (list_any (mentions_one deletion.now.dead.items)) self.old.tables
+            self.new.tables) }
         ensures kept { OnErr result (NoneGo self.old self.new) }
     {
         let _ = entity;
@@ -243,7 +255,8 @@ fn forget<A: Allocator + Copy>(
     schemas: &mut BTreeMap<u32, Schema<A>, A>,
     dead: &[EntityId],
 )
-    ensures names { (n : List ℕ) (e : EntityId) → (finite.get names.new n ≡ Some e) ↔ ((finite.get names.old n ≡ Some e) × (Contains dead.now e → ⊥)) }
+    ensures names { (n : List ℕ) (e : EntityId) → (finite.get names.new n ≡ Some e)
+        ↔ ((finite.get names.old n ≡ Some e) × (Contains dead.now e → ⊥)) }
     ensures schemas { IsMap nat_cmp schemas.old.entries → schemas.new.entries
         ≡ without nat_cmp schemas.old.entries (λ i. list_any (λ e. e.index == i) dead.now) }
 {

@@ -16,8 +16,9 @@ use std::alloc::Allocator;
 impl<A: Allocator + Copy> World<A> {
     /// Adds an id to an entity, with zeros as its value. A fact that is there already keeps its value.
     ///
-    /// With it come the facts of With and the mirror of a Symmetric relationship, and the other targets of an Exclusive one go. Where it gives
-    /// the entity a new base (IsA), copies of what the base holds come with their values, as OnInstantiate of each component says.
+    /// With it come the facts of With and the mirror of a Symmetric relationship, and the other targets of an Exclusive
+    /// one go. Where it gives the entity a new base (IsA), copies of what the base holds come with their values, as
+    /// OnInstantiate of each component says.
     pub fn add(&mut self, entity: EntityId, id: Id) -> Result<Changes<A>, CommandError>
         ensures answers { AnswersStep result (step self.old.state (Add entity id)) self.old.state self.new.state }
         ensures goes_on { TablesGoOn self.old.tables self.new.tables }
@@ -37,7 +38,8 @@ impl<A: Allocator + Copy> World<A> {
         id: Id,
         values: &[i128],
     ) -> Result<Changes<A>, CommandError>
-        ensures answers { AnswersStep result (step self.old.state (SetValue entity id values.now)) self.old.state self.new.state }
+        ensures answers { AnswersStep result (step self.old.state (SetValue entity id values.now)) self.old.state
+            self.new.state }
         ensures goes_on { TablesGoOn self.old.tables self.new.tables }
         ensures stay { OnlyForgottenGo self.old self.new }
     {
@@ -47,8 +49,8 @@ impl<A: Allocator + Copy> World<A> {
         }
     }
 
-    /// Takes an id from an entity, with the mirror of a Symmetric relationship. Where the entity doesn't hold it, nothing changes but the
-    /// count of commands.
+    /// Takes an id from an entity, with the mirror of a Symmetric relationship. Where the entity doesn't hold it,
+    /// nothing changes but the count of commands.
     pub fn remove(&mut self, entity: EntityId, id: Id) -> Result<Changes<A>, CommandError>
         ensures answers { AnswersStep result (step self.old.state (Remove entity id)) self.old.state self.new.state }
         ensures goes_on { TablesGoOn self.old.tables self.new.tables }
@@ -105,7 +107,8 @@ impl<A: Allocator + Copy> World<A> {
         id: Id,
         values: &[i128],
     ) -> Result<Changes<A>, CommandError>
-        ensures answers { AnswersStep result (step self.old.state (SetValue entity id values.now)) self.old.state self.new.state }
+        ensures answers { AnswersStep result (step self.old.state (SetValue entity id values.now)) self.old.state
+            self.new.state }
         ensures goes_on { TablesGoOn self.old.tables self.new.tables }
         ensures stay { OnlyForgottenGo self.old self.new }
     {

@@ -22,9 +22,9 @@
 //! assert!(rt; taken == Err(CommandError::Refused(Refusal::NameTaken)));
 //! ```
 //!
-//! Each command is judged as a whole before anything is changed. Where memory is refused it answers `Memory`, and the world is as it was.
-//! A command moves each entity whose ids it changes once, and takes time in what it changes and in the ancestors and referrers that its
-//! rules ask for. Readers take no memory.
+//! Each command is judged as a whole before anything is changed. Where memory is refused it answers `Memory`, and the
+//! world is as it was. A command moves each entity whose ids it changes once, and takes time in what it changes and in
+//! the ancestors and referrers that its rules ask for. Readers take no memory.
 #![tactic(auto, using(ecs_id::specs::Id::id_tests))]
 
 ghost use Rattle.std.specs.Prelude.{◌≡◌, IfOk};
@@ -107,7 +107,8 @@ impl<A: Allocator> Model for World<A> {
       tables = (w.archetypes).tables;
     } };
 
-    ghost invariant = { λ w. IsWorld (parts_of (holdings_of w.archetypes) w.names w.schemas.entries w.pins w.accepted) };
+    ghost invariant = { λ w. IsWorld (parts_of (holdings_of w.archetypes) w.names w.schemas.entries w.pins
+        w.accepted) };
 }
 
 impl<A: Allocator + Copy> World<A> {

@@ -1,12 +1,14 @@
 //! What is read from a world, without memory.
 
-ghost use Rattle.std.specs.Prelude.{◌≡◌, ◌<◌, ◌≤◌, IfSome, IsTrue, is_some, map, length, option_map, None, Some, if◌then◌else◌};
+ghost use Rattle.std.specs.Prelude.{◌≡◌, ◌<◌, ◌≤◌, IfSome, IsTrue, is_some, map, length, option_map, None, Some};
+ghost use Rattle.std.specs.Prelude.{if◌then◌else◌};
 ghost use Rattle.std.specs.Option.{option_copied};
 ghost use Rattle.std.specs.Ordering.{nat_cmp};
 ghost use Rattle.ecs_model.specs.Bytes.{size_of, values_in};
 ghost use Rattle.ecs_model.specs.Map.{value_at};
 ghost use Rattle.ecs_model.specs.steps.WellFormed.{IsWellFormed};
-ghost use Rattle.ecs_model.specs.World.{entity_at, holds, ids_of, is_alive, is_live, name_of, named, type_of_id, value_of};
+ghost use Rattle.ecs_model.specs.World.{entity_at, holds, ids_of, is_alive, is_live, name_of, named, type_of_id};
+ghost use Rattle.ecs_model.specs.World.{value_of};
 ghost use Rattle.ecs_world.specs.Standing.{IsGraphOf, IsLinksOf};
 ghost use Rattle.ecs_world.specs.State.{AreFactsOf, byte_count, value_in};
 
@@ -95,7 +97,8 @@ impl<A: Allocator> World<A> {
 
     /// The bytes of a fact's value, as `type_of` says what they mean: none where the id has no fields, and at most 64.
     pub fn bytes(&self, index: u32, id: Id) -> Option<&[u8]>
-        ensures value { option_map (value_in (type_of_id self.now.state id)) (option_copied result) ≡ value_of self.now.state index id }
+        ensures value { option_map (value_in (type_of_id self.now.state id)) (option_copied result)
+            ≡ value_of self.now.state index id }
         ensures size { IfSome result (λ bytes. length bytes.now ≡ byte_count (type_of_id self.now.state id)) }
         ensures few { IfSome result (λ bytes. length bytes.now ≤ 64) }
     {
@@ -107,7 +110,8 @@ impl<A: Allocator> World<A> {
 
     /// The ids of a live entity, in order, and None of one that is not alive.
     pub fn ids_of(&self, entity: EntityId) -> Option<&[Id]>
-        ensures { option_copied result ≡ (if is_alive self.now.state entity then Some (ids_of self.now.state entity.index) else None) }
+        ensures { option_copied result ≡ (if is_alive self.now.state entity then Some
+            (ids_of self.now.state entity.index) else None) }
     {
         self.archetypes.ids_of(entity)
     }

@@ -71,8 +71,8 @@ impl<A: Allocator> World<A> {
         }
     }
 
-    /// Writes the bytes of a value of a fact that comes alone, of a live entity, to the front of the buffer, and tells how many they are, or
-    /// why it is not set.
+    /// Writes the bytes of a value of a fact that comes alone, of a live entity, to the front of the buffer, and tells
+    /// how many they are, or why it is not set.
     pub(crate) fn judge_single(
         &self,
         entity: EntityId,
@@ -87,7 +87,8 @@ impl<A: Allocator> World<A> {
         requires count { (found.now).count ≡ length (ids_of self.now.state entity.index) }
         ensures judged { OnOk result (first_reason (reasons self.now.state (SetValue entity id values.now)) ≡ None) }
         ensures encoded { IfOk result (λ size. IsEncoded (type_of_id self.now.state id) values.now size buffer.new) }
-        ensures refused { IfErr result (λ refusal. first_reason (reasons self.now.state (SetValue entity id values.now)) ≡ Some refusal) }
+        ensures refused { IfErr result (λ refusal. first_reason (reasons self.now.state (SetValue entity id values.now))
+            ≡ Some refusal) }
     {
         self.keeps();
         if !self.mentions_live(id) {
@@ -103,7 +104,8 @@ impl<A: Allocator> World<A> {
         }
     }
 
-    /// Why a fact that comes in the place of another is not added to a live entity. It needs no room, since the other goes.
+    /// Why a fact that comes in the place of another is not added to a live entity. It needs no room, since the other
+    /// goes.
     pub(crate) fn replacing_refusal(&self, entity: EntityId, id: Id, old: Id) -> Option<Refusal>
         requires in_place { ComesInPlace (ids_of self.now.state) (entity.index, id) old }
         requires alive { IsTrue (is_alive self.now.state entity) }
@@ -157,7 +159,8 @@ impl<A: Allocator> World<A> {
         id.second().is_none() || !self.ids_at(id.first()).contains(&Id::plain(SYMMETRIC))
     }
 
-    /// Writes the bytes of a value to the front of the buffer, and tells how many they are, or why the numbers are no value of the id.
+    /// Writes the bytes of a value to the front of the buffer, and tells how many they are, or why the numbers are no
+    /// value of the id.
     pub(crate) fn encode(
         &self,
         id: Id,
@@ -166,7 +169,8 @@ impl<A: Allocator> World<A> {
     ) -> Result<usize, Refusal>
         ensures judged { OnOk result (first_reason (value_reasons (type_of_id self.now.state id) values.now) ≡ None) }
         ensures encoded { IfOk result (λ size. IsEncoded (type_of_id self.now.state id) values.now size buffer.new) }
-        ensures refused { IfErr result (λ refusal. first_reason (value_reasons (type_of_id self.now.state id) values.now) ≡ Some refusal) }
+        ensures refused { IfErr result (λ refusal. first_reason (value_reasons
+            (type_of_id self.now.state id) values.now) ≡ Some refusal) }
     {
         let Some(schema) = self.type_of(id) else {
             return Err(Refusal::NoData);

@@ -18,7 +18,8 @@ pub(crate) fn release_tag_pairs<A: Allocator + Copy>(
     archetypes: &mut Archetypes<A>,
     came: &[SizedFact],
 )
-    requires unheld { (e : ℕ) (i : Id) → gets_no_data came.now i ≡ true → holds_id (holdings_of archetypes.old) e i ≡ false }
+    requires unheld { (e : ℕ) (i : Id) → gets_no_data came.now i ≡ true
+        → holds_id (holdings_of archetypes.old) e i ≡ false }
     requires whole { IsHoused archetypes.old }
     ensures { AreLeft (gets_no_data came.now) archetypes.old archetypes.new }
 {
@@ -34,7 +35,8 @@ pub(crate) fn release_tag_pairs<A: Allocator + Copy>(
 
 /// Releases the tables with an id that mentions a dead entity. No entity holds such an id.
 pub(crate) fn release_dead<A: Allocator + Copy>(archetypes: &mut Archetypes<A>, dead: &[u32])
-    requires unheld { (e : ℕ) (i : Id) → mentions_one dead.now i ≡ true → holds_id (holdings_of archetypes.old) e i ≡ false }
+    requires unheld { (e : ℕ) (i : Id) → mentions_one dead.now i ≡ true
+        → holds_id (holdings_of archetypes.old) e i ≡ false }
     requires whole { IsHoused archetypes.old }
     ensures { AreLeft (mentions_one dead.now) archetypes.old archetypes.new }
 {
@@ -45,7 +47,8 @@ pub(crate) fn release_dead<A: Allocator + Copy>(archetypes: &mut Archetypes<A>, 
 
 /// Releases the tables with an id that mentions one dead entity.
 fn release_mentions<A: Allocator + Copy>(archetypes: &mut Archetypes<A>, index: u32)
-    requires unheld { (e : ℕ) (i : Id) → list_any (λ x. x == index) (mentioned i) ≡ true → holds_id (holdings_of archetypes.old) e i ≡ false }
+    requires unheld { (e : ℕ) (i : Id) → list_any (λ x. x == index) (mentioned i) ≡ true
+        → holds_id (holdings_of archetypes.old) e i ≡ false }
     requires whole { IsHoused archetypes.old }
     ensures { AreLeft (λ i. list_any (λ x. x == index) (mentioned i)) archetypes.old archetypes.new }
 {

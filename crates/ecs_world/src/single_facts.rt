@@ -1,4 +1,5 @@
-//! Commands on facts with which no others come, and none goes or just one of the same entity: each moves one row, or none.
+//! Commands on facts with which no others come, and none goes or just one of the same entity: each moves one row, or
+//! none.
 
 ghost use Rattle.std.specs.Prelude.{◌≡◌, true};
 ghost use Rattle.ecs_model.specs.steps.Outcomes.{AnswersStep};
@@ -90,7 +91,8 @@ impl<A: Allocator + Copy> World<A> {
         values: &[i128],
     ) -> Result<Changes<A>, CommandError>
         requires alone { ComesAlone (ids_of self.old.state) (entity.index, id) }
-        ensures answers { AnswersStep result (step self.old.state (SetValue entity id values.now)) self.old.state self.new.state }
+        ensures answers { AnswersStep result (step self.old.state (SetValue entity id values.now)) self.old.state
+            self.new.state }
         ensures goes_on { TablesGoOn self.old.tables self.new.tables }
         ensures stay { NoneGo self.old self.new }
     {

@@ -3,7 +3,8 @@ ghost use Rattle.std.specs.Prelude.{◌≡◌, ◌↔◌, ◌≤◌, None, Some,
 ghost use Rattle.std.specs.Bool.{OnTrue, OnFalse};
 ghost use Rattle.ecs_id.specs.Id.{last_index};
 ghost use Rattle.ecs_model.specs.World.{first_index};
-ghost use Rattle.entity_index.specs.Entities.{built_in_entities, entity_at, is_alive, is_deletable, live_entities, next_entity, place_of, with_entity};
+ghost use Rattle.entity_index.specs.Entities.{built_in_entities, entity_at, is_alive, is_deletable, live_entities};
+ghost use Rattle.entity_index.specs.Entities.{next_entity, place_of, with_entity};
 ghost use Rattle.entity_index.specs.Entities.{with_place, without_entity, IsFull, IsNext, IsWellFormed};
 
 use crate::live::Live;

@@ -3,7 +3,8 @@ ghost use Rattle.std.specs.Prelude.{◌≡◌, ◌↔◌, ◌≤◌, ◌<◌, �
 ghost use Rattle.std.specs.Bool.{OnTrue, OnFalse};
 ghost use Rattle.ecs_id.specs.Id.{last_index};
 ghost use Rattle.ecs_model.specs.World.{first_index};
-ghost use Rattle.entity_index.specs.Entities.{built_in_entities, entity_at, is_alive, is_deletable, is_live, live_entities, next_entity, place_of, with_entity};
+ghost use Rattle.entity_index.specs.Entities.{built_in_entities, entity_at, is_alive, is_deletable, is_live};
+ghost use Rattle.entity_index.specs.Entities.{live_entities, next_entity, place_of, with_entity};
 ghost use Rattle.entity_index.specs.Entities.{with_place, without_entity, IsFull, IsNext, IsWellFormed};
 ghost use Rattle.entity_index.specs.Sizes.{live_size};
 
@@ -16,13 +17,14 @@ use std::marker::Model;
 
 /// The entities that live, their generations, and where their rows stand.
 ///
-/// The indexes 1 to 22 are those of the built-in entities, which always live. New entities get indexes from 64 on, always the
-/// smallest that is free. An index whose generation 65,535 was deleted is never given out again. (That a stale id is not alive
-/// is as in Flecs; which index comes next is this profile's own rule.)
+/// The indexes 1 to 22 are those of the built-in entities, which always live. New entities get indexes from 64 on,
+/// always the smallest that is free. An index whose generation 65,535 was deleted is never given out again. (That a
+/// stale id is not alive is as in Flecs; which index comes next is this profile's own rule.)
 ///
-/// But for growth, `create` and `delete` take logarithmic time in the number of free indexes and the other calls constant time;
-/// the iterator passes each index that was used. `delete` of the greatest live index also passes the dead ones below it, each of which some
-/// `create` had passed. Only `new` and `create` take memory, which grows with the greatest index used.
+/// But for growth, `create` and `delete` take logarithmic time in the number of free indexes and the other calls
+/// constant time; the iterator passes each index that was used. `delete` of the greatest live index also passes the
+/// dead ones below it, each of which some `create` had passed. Only `new` and `create` take memory, which grows with
+/// the greatest index used.
 #[derive(Drop)]
 pub struct EntityIndex<A: Allocator = Global> {
     inner: SlotIndex<A>,

@@ -1,6 +1,7 @@
 //! Bits in words: that of a number `e` is bit `e % 64` of the word `e / 64`.
 
-ghost use Rattle.std.specs.Prelude.{◌≡◌, ◌↔◌, ◌<◌, ◌≤◌, ◌*◌, ◌==◌, ◌&&◌, ◌||◌, ◌++◌, [], ◌∷◌, ℕ, All, IsTrue, OnOk, filter, if◌then◌else◌, length, not};
+ghost use Rattle.std.specs.Prelude.{◌≡◌, ◌↔◌, ◌<◌, ◌≤◌, ◌*◌, ◌==◌, ◌&&◌, ◌||◌, ◌++◌, [], ◌∷◌, ℕ, All, IsTrue, OnOk};
+ghost use Rattle.std.specs.Prelude.{filter, if◌then◌else◌, length, not};
 ghost use Rattle.std.specs.Prelude.{slice_index};
 ghost use Rattle.std.specs.List.{list_any};
 ghost use Rattle.ecs_model.specs.BitWords.{has_bit};
@@ -90,7 +91,8 @@ pub(crate) fn have_words(words: &[u64], numbers: &[u32]) -> bool
 pub(crate) fn exchange<A: Allocator>(words: &mut Vec<u64, A>, left: &[u32], entered: &[u32])
     ensures length { length words.new.items ≡ length words.old.items }
     ensures has { (e : ℕ) → e < 64 * length words.old.items
-        → has_bit words.new.items e ≡ ((has_bit words.old.items e && not (list_any (λ x. x == e) left.now)) || list_any (λ x. x == e) entered.now) }
+        → has_bit words.new.items e ≡ ((has_bit words.old.items e && not (list_any (λ x. x == e) left.now))
+        || list_any (λ x. x == e) entered.now) }
 {
     exchange_in(words.as_mut_slice(), left, entered);
 }
@@ -98,7 +100,8 @@ pub(crate) fn exchange<A: Allocator>(words: &mut Vec<u64, A>, left: &[u32], ente
 fn exchange_in(words: &mut [u64], left: &[u32], entered: &[u32])
     ensures length { length words.new ≡ length words.old }
     ensures has { (e : ℕ) → e < 64 * length words.old
-        → has_bit words.new e ≡ ((has_bit words.old e && not (list_any (λ x. x == e) left.now)) || list_any (λ x. x == e) entered.now) }
+        → has_bit words.new e ≡ ((has_bit words.old e && not (list_any (λ x. x == e) left.now))
+        || list_any (λ x. x == e) entered.now) }
 {
     for number in left {
         clear(words, *number);
@@ -127,7 +130,8 @@ pub(crate) fn push_others<A: Allocator>(
     found: &mut Vec<u32, A>,
 ) -> Result<(), AllocError>
     requires few { place < 67108864 }
-    ensures { OnOk result (found.new.items ≡ found.old.items ++ filter (has_else words.now others.now) (indexes_of place)) }
+    ensures { OnOk result (found.new.items ≡ found.old.items ++ filter (has_else words.now others.now)
+        (indexes_of place)) }
 {
     let others_are_in = word_at(words, place) & !word_at(others, place) == 0;
     if others_are_in {

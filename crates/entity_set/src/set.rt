@@ -9,8 +9,8 @@ use crate::bits::{exchange, has, have_words, push_others, put, take_out};
 use std::alloc::{AllocError, Allocator, Global};
 use std::marker::Model;
 
-/// A set of entities. Its items are their indexes, in ascending order. It takes an eighth of a byte for each index up to the greatest that it had,
-/// and has room for all below the next multiple of 64.
+/// A set of entities. Its items are their indexes, in ascending order. It takes an eighth of a byte for each index up
+/// to the greatest that it had, and has room for all below the next multiple of 64.
 #[derive(Drop)]
 pub struct EntitySet<A: Allocator = Global> {
     /// The bit of an index `e` is bit `e % 64` of the word `e / 64`.
@@ -53,7 +53,8 @@ impl<A: Allocator> EntitySet<A> {
         have_words(self.words.as_slice(), entities)
     }
 
-    /// Takes out some and then puts in others, of those for whom there is room. It takes no memory, and a few steps for each of these.
+    /// Takes out some and then puts in others, of those for whom there is room. It takes no memory, and a few steps for
+    /// each of these.
     pub fn exchange(&mut self, left: &[u32], entered: &[u32])
         ensures { self.new ≡ exchanged left.now entered.now self.old }
     {
@@ -67,7 +68,8 @@ impl<A: Allocator + Copy> EntitySet<A> {
     /// Fails where memory is refused.
     pub fn of(alloc: A, entities: &[u32]) -> Result<Self, AllocError>
         ensures ascends { IfOk result (λ set. IsStrictlyIncreasing set.items) }
-        ensures members { IfOk result (λ set. (e : ℕ) → list_any (λ x. x == e) set.items ≡ list_any (λ x. x == e) entities.now) }
+        ensures members { IfOk result (λ set. (e : ℕ) → list_any (λ x. x == e) set.items
+            ≡ list_any (λ x. x == e) entities.now) }
     {
         let mut words = Vec::new(alloc);
         for entity in entities {
@@ -76,13 +78,15 @@ impl<A: Allocator + Copy> EntitySet<A> {
         Ok(EntitySet { words })
     }
 
-    /// The set after some have left and then some have entered. It takes a copy of the bits, and a few steps for each of these.
+    /// The set after some have left and then some have entered. It takes a copy of the bits, and a few steps for each
+    /// of these.
     ///
     /// Fails where memory is refused.
     pub fn moved(&self, alloc: A, left: &[u32], entered: &[u32]) -> Result<Self, AllocError>
         ensures ascends { IfOk result (λ set. IsStrictlyIncreasing set.items) }
         ensures members { IfOk result (λ set. (e : ℕ) → list_any (λ x. x == e) set.items
-            ≡ ((list_any (λ x. x == e) self.now.items && not (list_any (λ x. x == e) left.now)) || list_any (λ x. x == e) entered.now)) }
+            ≡ ((list_any (λ x. x == e) self.now.items && not (list_any (λ x. x == e) left.now))
+            || list_any (λ x. x == e) entered.now)) }
     {
         let mut words = Vec::from_slice(alloc, self.words.as_slice())?;
         for entity in left {
@@ -94,11 +98,13 @@ impl<A: Allocator + Copy> EntitySet<A> {
         Ok(EntitySet { words })
     }
 
-    /// Those of the set who are not in another, in ascending order. It takes a few steps for each 64 indexes, and for each who is found.
+    /// Those of the set who are not in another, in ascending order. It takes a few steps for each 64 indexes, and for
+    /// each who is found.
     ///
     /// Fails where memory is refused.
     pub fn without(&self, alloc: A, other: &EntitySet<A>) -> Result<Vec<u32, A>, AllocError>
-        ensures { IfOk result (λ found. found.items ≡ filter (λ x. not (list_any (λ y. y == x) other.now.items)) self.now.items) }
+        ensures { IfOk result (λ found. found.items ≡ filter (λ x. not (list_any (λ y. y == x) other.now.items))
+            self.now.items) }
     {
         let words = self.words.as_slice();
         let others = other.words.as_slice();

@@ -9,7 +9,8 @@ use thiserror::Error;
 /// Why a name is not bound. The first that applies is answered, and a refusal changes nothing.
 #[derive(Clone, Copy, Debug, PartialEq, Eq, Error)]
 pub enum BindError {
-    /// The text is no name: a name is 1 to 64 letters, digits, `_` and `.`, the first a letter, and no word of the query language.
+    /// The text is no name: a name is 1 to 64 letters, digits, `_` and `.`, the first a letter, and no word of the
+    /// query language.
     #[error("the text is no name")]
     BadName,
     /// An entity has the name.

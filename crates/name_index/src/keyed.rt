@@ -4,7 +4,8 @@ use std::hash::{BuildHasher, FoldHasher, Hasher, RandomState};
 
 /// Makes hashers that all begin where random keys led.
 ///
-/// They are std's fast ones, which elsewhere begin where everybody knows. On short names those of `RandomState` take several times as long.
+/// They are std's fast ones, which elsewhere begin where everybody knows. On short names those of `RandomState` take
+/// several times as long.
 #[derive(Clone, Copy)]
 pub(crate) struct Keyed {
     start: FoldHasher,

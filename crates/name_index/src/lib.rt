@@ -1,7 +1,8 @@
 //! The names of entities, one to one: no two entities have one name, and no entity has two.
 #![tactic(auto)]
 
-ghost use Rattle.std.specs.Prelude.{◌≡◌, ◌≢◌, ◌↔◌, ℕ, List, false, nat_eq, true, None, Some, IsSome, IfNone, OnOk, OnErr, IsErrOf};
+ghost use Rattle.std.specs.Prelude.{◌≡◌, ◌≢◌, ◌↔◌, ℕ, List, false, nat_eq, true, None, Some, IsSome, IfNone, OnOk};
+ghost use Rattle.std.specs.Prelude.{OnErr, IsErrOf};
 ghost use Rattle.std.specs.Cmp.Lexicographic.{pointwise};
 ghost use Rattle.std.specs.HashMap.{IsUnique};
 ghost use Rattle.std.specs.Option.{option_copied};
@@ -35,8 +36,8 @@ type ByLong<A> = IndexMap<String<A>, EntityId, Keyed, A>;
 
 /// Which entity each name names.
 ///
-/// But for growth, each call takes constant time for names of at most 15 bytes, whatever they are, since nobody who chooses them
-/// knows the random keys. Longer names are kept apart, and of each entity in order.
+/// But for growth, each call takes constant time for names of at most 15 bytes, whatever they are, since nobody who
+/// chooses them knows the random keys. Longer names are kept apart, and of each entity in order.
 #[derive(Drop)]
 pub struct NameIndex<A: Allocator = Global> {
     short: ByShort<A>,

@@ -71,7 +71,8 @@ fn key_bytes(text: &[u8]) -> [u8; 16]
     bytes
 }
 
-/// Writes a short text over the first bytes. Words are copied, since a call that copies any number of bytes takes longer.
+/// Writes a short text over the first bytes. Words are copied, since a call that copies any number of bytes takes
+/// longer.
 #[inline(always)]
 fn put_short(text: &[u8], bytes: &mut [u8])
     requires short { length text.now ≤ 15 }

@@ -1,5 +1,6 @@
 //! The name of each entity.
-ghost use Rattle.std.specs.Prelude.{◌≡◌, ◌≢◌, ◌≤◌, ◌<◌, ◌^◌, ℕ, List, cond, false, length, nat_eq, option_map, slice_get, slice_index_or, None, Some, IfSome};
+ghost use Rattle.std.specs.Prelude.{◌≡◌, ◌≢◌, ◌≤◌, ◌<◌, ◌^◌, ℕ, List, cond, false, length, nat_eq, option_map};
+ghost use Rattle.std.specs.Prelude.{slice_get, slice_index_or, None, Some, IfSome};
 ghost use Rattle.std.specs.Prelude.{MatchOption, OnErr, OnOk};
 ghost use Rattle.std.specs.Cmp.Lexicographic.{pointwise};
 ghost use Rattle.std.specs.HashMap.{IsUnique, Updates};
@@ -17,7 +18,8 @@ use std::collections::BTreeMap;
 
 /// The name of each entity that has one, found by index and without a hash.
 ///
-/// A short name stands in the map of short names, and here is its place there, which may be out of date: an entry says itself whose it is.
+/// A short name stands in the map of short names, and here is its place there, which may be out of date: an entry says
+/// itself whose it is.
 #[derive(Drop)]
 pub struct Texts<A: Allocator> {
     // by index, up to the greatest of an entity that had a short name
@@ -65,9 +67,11 @@ impl<A: Allocator + Copy> Texts<A> {
 }
 
 impl<A: Allocator> Texts<A> {
-    /// The place of a short name that will stand last, unless the list by index has that of another entity of the index.
+    /// The place of a short name that will stand last, unless the list by index has that of another entity of the
+    /// index.
     pub fn place_for(&self, short: &ByShort<A>, entity: EntityId) -> Option<u32>
-        ensures { IfSome result (λ at. (at ≡ length short.now.entries) × (is_of entity.index (entry_of self.now short.now.entries entity.index) ≡ false)) }
+        ensures { IfSome result (λ at. (at ≡ length short.now.entries)
+            × (is_of entity.index (entry_of self.now short.now.entries entity.index) ≡ false)) }
     {
         if self.is_taken(short, entity.index) {
             return None;
@@ -95,7 +99,8 @@ impl<A: Allocator> Texts<A> {
         entity: EntityId,
     ) -> Option<(usize, &'a ShortName)>
         ensures { MatchOption result (first_of self.now short.now.entries entity ≡ None)
-            (λ r. (first_of self.now short.now.entries entity ≡ Some r.1.now) × (slice_get short.now.entries r.0 ≡ Some (r.1.now, entity))) }
+            (λ r. (first_of self.now short.now.entries entity ≡ Some r.1.now)
+            × (slice_get short.now.entries r.0 ≡ Some (r.1.now, entity))) }
     {
         let Some(&place) = self.places.get(entity.index as usize) else {
             return None;
@@ -120,9 +125,11 @@ impl<A: Allocator> Texts<A> {
     /// Takes a short name out of its map, and notes the place of the entry that comes to stand there.
     pub fn take(&mut self, short: &mut ByShort<A>, place: usize)
         requires { place < length short.old.entries }
-        ensures removed { (p : List ℕ × EntityId) → slice_get short.old.entries place ≡ Some p → Updates (pointwise nat_eq) short.old short.new p.0 None }
+        ensures removed { (p : List ℕ × EntityId) → slice_get short.old.entries place ≡ Some p
+            → Updates (pointwise nat_eq) short.old short.new p.0 None }
         ensures unique { IsUnique (pointwise nat_eq) short.new }
-        ensures stay { (p : List ℕ × EntityId) → slice_get short.old.entries place ≡ Some p → (q : List ℕ) (e : EntityId) → q ≢ p.0
+        ensures stay { (p : List ℕ × EntityId) → slice_get short.old.entries place ≡ Some p
+            → (q : List ℕ) (e : EntityId) → q ≢ p.0
             → first_of self.old short.old.entries e ≡ Some q → first_of self.new short.new.entries e ≡ Some q }
         ensures others { (e : EntityId) → other_of self.new e ≡ other_of self.old e }
     {
@@ -161,7 +168,8 @@ fn put_place<A: Allocator>(
 ) -> Result<(), AllocError>
     ensures within { OnOk result (index < length places.new.items) }
     ensures put { OnOk result (slice_index_or places.new.items index place ≡ place) }
-    ensures others { OnOk result ((i : ℕ) → i ≢ index → slice_index_or places.new.items i place ≡ slice_index_or places.old.items i place) }
+    ensures others { OnOk result ((i : ℕ) → i ≢ index → slice_index_or places.new.items i place
+        ≡ slice_index_or places.old.items i place) }
     ensures refused { OnErr result (places.new.items ≡ places.old.items) }
 {
     let index = index as usize;
@@ -187,7 +195,8 @@ fn lengthen<A: Allocator>(
     requires within { index < 2 ^ 32 }
     ensures within { OnOk result (index < length places.new.items) }
     ensures put { OnOk result (slice_index_or places.new.items index place ≡ place) }
-    ensures others { OnOk result ((i : ℕ) → i ≢ index → slice_index_or places.new.items i place ≡ slice_index_or places.old.items i place) }
+    ensures others { OnOk result ((i : ℕ) → i ≢ index → slice_index_or places.new.items i place
+        ≡ slice_index_or places.old.items i place) }
     ensures refused { OnErr result (places.new.items ≡ places.old.items) }
 {
     places.resize(index + 1, place)

@@ -18,9 +18,11 @@ use std::alloc::{AllocError, Allocator, Global};
 use std::marker::Model;
 use table_store::TableStore;
 
-/// The tables whose ids have a hit for each cacheable item of a query, emptied tables among them, as of the last `sync`.
+/// The tables whose ids have a hit for each cacheable item of a query, emptied tables among them, as of the last
+/// `sync`.
 ///
-/// Cacheable are the And terms outside all groups that ask `$this` itself for stored ids, and whose component and target are no variables.
+/// Cacheable are the And terms outside all groups that ask `$this` itself for stored ids, and whose component and
+/// target are no variables.
 #[derive(Drop)]
 pub struct Kept<A: Allocator = Global> {
     patterns: Vec<Pattern, A>,
@@ -87,8 +89,10 @@ impl<A: Allocator> Kept<A> {
     /// Where memory is refused the list stays as it was, and a later `sync` goes on from it.
     pub fn sync<B: Allocator>(&mut self, tables: &TableStore<B>) -> Result<(), AllocError>
         requires { Fits self.old tables.now }
-        ensures listed { (q : model.Query) → self.old.patterns ≡ patterns_of q → OnOk result (AreListed q tables.now self.new.keys) }
-        ensures exact { OnOk result ((k : TableKey) → Contains self.new.keys k ↔ IsTrue (is_kept self.new.patterns tables.now k)) }
+        ensures listed { (q : model.Query) → self.old.patterns ≡ patterns_of q
+            → OnOk result (AreListed q tables.now self.new.keys) }
+        ensures exact { OnOk result ((k : TableKey) → Contains self.new.keys k
+            ↔ IsTrue (is_kept self.new.patterns tables.now k)) }
         ensures once { IsRising self.new.keys }
         ensures judged { Judges tables.now self.old.last result self.old.judged self.new.judged }
         ensures again { IsSynced self.old tables.now → self.new.judged ≡ self.old.judged }

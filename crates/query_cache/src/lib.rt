@@ -11,8 +11,8 @@
 //! kept.sync(world.graph().store())?;
 //! ```
 //!
-//! A list follows one world: what its caller proves is that it fits that world (`Fits`). A new list fits each, `sync` leaves it so, and so does
-//! each call of the world (`laws::fits_later`).
+//! A list follows one world: what its caller proves is that it fits that world (`Fits`). A new list fits each, `sync`
+//! leaves it so, and so does each call of the world (`laws::fits_later`).
 #![tactic(auto)]
 
 mod judge;

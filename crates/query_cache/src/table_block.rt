@@ -1,6 +1,7 @@
 //! Tables whose serials and slots go side by side, a bit for each.
 
-ghost use Rattle.std.specs.Prelude.{◌≡◌, ◌<◌, ◌≤◌, ◌==◌, ◌++◌, ◌∷◌, [], IfSome, IsTrue, OnOk, filter, if◌then◌else◌, is_some};
+ghost use Rattle.std.specs.Prelude.{◌≡◌, ◌<◌, ◌≤◌, ◌==◌, ◌++◌, ◌∷◌, [], IfSome, IsTrue, OnOk, filter, if◌then◌else◌};
+ghost use Rattle.std.specs.Prelude.{is_some};
 ghost use Rattle.std.specs.Int.{bit_at};
 ghost use Rattle.query_cache.specs.TableList.{IsBlock, key_at, keeps, keys_of};
 ghost use Rattle.table_store.specs.Store.{table_at};
@@ -110,7 +111,8 @@ impl Block {
     ) -> Result<(), AllocError>
         requires block { IsBlock self.now }
         requires within { bit < self.now.width }
-        ensures { OnOk result (keys.new.items ≡ keys.old.items ++ (if bit_at self.now.bits bit == 1 then key_at self.now bit ∷ [] else [])) }
+        ensures { OnOk result (keys.new.items ≡ keys.old.items ++ (if bit_at self.now.bits bit == 1 then key_at self.now
+            bit ∷ [] else [])) }
     {
         if self.bits >> bit & 1 == 1 {
             let Some(key) = ListedKey::of(self.key_at(bit)) else {

@@ -9,7 +9,8 @@ use ecs_id::TableKey;
 use std::alloc::{AllocError, Allocator, Global};
 use std::marker::Model;
 
-/// A list of tables. It takes 32 bytes for each 64 tables that were made one after another in new slots, and never more than 32 bytes a table.
+/// A list of tables. It takes 32 bytes for each 64 tables that were made one after another in new slots, and never more
+/// than 32 bytes a table.
 #[derive(Drop)]
 pub struct TableList<A: Allocator = Global> {
     blocks: Vec<Block, A>,

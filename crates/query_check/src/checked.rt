@@ -3,7 +3,8 @@
 ghost use Rattle.std.specs.Prelude.{◌≡◌, length, map, None, IfOk};
 ghost use Rattle.query_check.specs.Found.{AreFound};
 ghost use Rattle.query_check.specs.Places.{IsTree, places_of};
-ghost use Rattle.query_check.specs.Seen.{AnswersCheck, level_uses, seen_cascading, seen_occurrence, seen_use, syntax_of};
+ghost use Rattle.query_check.specs.Seen.{AnswersCheck, level_uses, seen_cascading, seen_occurrence, seen_use};
+ghost use Rattle.query_check.specs.Seen.{syntax_of};
 ghost use Rattle.query_model.specs.Cascades.{cascades as cascades_in};
 ghost use Rattle.query_model.specs.Check.{faults};
 ghost use Rattle.query_model.specs.Faults.{least_from};
@@ -46,7 +47,8 @@ fn answer<'a, A: Allocator + Copy, W: Lookup>(
     parts: &[Part<'a>],
     text_length: usize,
 ) -> Result<Result<Query<A>, Fault>, AllocError>
-    ensures { IfOk result (λ answer. check_of (W.known world.now) (syntax_of (map seen_part parts.now) text_length) ≡ answer) }
+    ensures { IfOk result (λ answer. check_of (W.known world.now) (syntax_of (map seen_part parts.now) text_length)
+        ≡ answer) }
 {
     let places = places(alloc, parts)?;
     let places = places.as_slice();

@@ -1,12 +1,15 @@
-//! The faults of a query's syntax, kind by kind: each function tells the least of its own and of the one that was found before.
+//! The faults of a query's syntax, kind by kind: each function tells the least of its own and of the one that was found
+//! before.
 
-ghost use Rattle.std.specs.Prelude.{◌≡◌, ◌≤◌, [], ◌∷◌, if◌then◌else◌, bytes_eq, flat_map, length, map, option_map, option_to_list, IfOk};
+ghost use Rattle.std.specs.Prelude.{◌≡◌, ◌≤◌, [], ◌∷◌, if◌then◌else◌, bytes_eq, flat_map, length, map, option_map};
+ghost use Rattle.std.specs.Prelude.{option_to_list, IfOk};
 ghost use Rattle.std.specs.List.{list_any};
 ghost use Rattle.query_check.specs.Found.{AreFound, IsFound};
 ghost use Rattle.query_check.specs.Places.{IsRooted, IsTree, places_of};
 ghost use Rattle.query_check.specs.Seen.{seen_cascading, seen_use, seen_occurrence};
 ghost use Rattle.query_model.specs.Cascades.{is_misplaced, misplaced};
-ghost use Rattle.query_model.specs.Check.{Known, cascade_fault, counted_spans, faults_of_position, faults_of_use, item_at, most_names, most_terms, new_names};
+ghost use Rattle.query_model.specs.Check.{Known, cascade_fault, counted_spans, faults_of_position, faults_of_use};
+ghost use Rattle.query_model.specs.Check.{item_at, most_names, most_terms, new_names};
 ghost use Rattle.query_model.specs.Check.{not_traversable, too_deep, too_deep_part, unbound, unknown_word, wildcard};
 ghost use Rattle.query_model.specs.Faults.{is_before, kind_number, fault_at, least_from, lesser};
 ghost use Rattle.query_model.specs.Levels.{Path, placed_parts};
@@ -44,7 +47,8 @@ pub(crate) fn fault_at(kind: FaultKind, span: Span) -> Fault
 /// The least fault of references.
 pub(crate) fn of_uses<W: Lookup>(world: &W, uses: &[Use<'_>], found: Option<Fault>) -> Option<Fault>
     requires { AreFound (W.known world.now) uses.now }
-    ensures { result ≡ least_from found (flat_map (λ u. faults_of_use (W.known world.now) u.1) (map seen_use uses.now)) }
+    ensures { result ≡ least_from found (flat_map (λ u. faults_of_use (W.known world.now) u.1)
+        (map seen_use uses.now)) }
 {
     let mut least = found;
     for used in uses {
@@ -99,7 +103,8 @@ fn number_of(kind: FaultKind) -> u8
 
 /// The fault of a word that names no entity.
 fn unknown_word(used: &Use<'_>) -> Option<Fault>
-    ensures { let r = seen_reference (used.now).reference in (k : Known) → IsFound k used.now → option_to_list result ≡ unknown_word k r.spoken r.span }
+    ensures { let r = seen_reference (used.now).reference in (k : Known) → IsFound k used.now
+        → option_to_list result ≡ unknown_word k r.spoken r.span }
 {
     match used.reference.spoken {
         Spoken::Word(_) if used.entity.is_none() => {
@@ -126,7 +131,8 @@ fn of_position<W: Lookup>(world: &W, used: &Use<'_>) -> Option<Fault>
 /// The fault of a relationship behind `up` or `cascade` that can't be traversed.
 fn not_traversable<W: Lookup>(world: &W, used: &Use<'_>) -> Option<Fault>
     requires { IsFound (W.known world.now) used.now }
-    ensures { let r = seen_reference (used.now).reference in option_to_list result ≡ not_traversable (W.known world.now) r.spoken r.span }
+    ensures { let r = seen_reference (used.now).reference in option_to_list result
+        ≡ not_traversable (W.known world.now) r.spoken r.span }
 {
     match used.entity {
         Some(entity) if !world.is_traversable(entity.index) => {
@@ -175,7 +181,8 @@ fn too_deep(part: &Part<'_>, depth: usize) -> Option<Fault>
 
 /// The least fault of a query with too many terms.
 pub(crate) fn of_terms(parts: &[Part<'_>], found: Option<Fault>) -> Option<Fault>
-    ensures { result ≡ least_from found (map (fault_at FaultKind.TooManyTerms) (item_at most_terms (flat_map counted_spans (map seen_part parts.now)))) }
+    ensures { result ≡ least_from found (map (fault_at FaultKind.TooManyTerms)
+        (item_at most_terms (flat_map counted_spans (map seen_part parts.now)))) }
 {
     match one_too_many(parts) {
         Some(span) => with_fault(found, Some(fault_at(FaultKind::TooManyTerms, span))),

@@ -7,7 +7,8 @@ ghost use Rattle.query_check.specs.Numbered.{item_kind, level_around, piece_or, 
 use crate::query::{Item, Piece};
 use std::alloc::{AllocError, Allocator, Global};
 
-/// An item or a group of a query, and the level in which it stands: 0 for the whole query, and `n + 1` for the group with the number `n`.
+/// An item or a group of a query, and the level in which it stands: 0 for the whole query, and `n + 1` for the group
+/// with the number `n`.
 #[derive(Clone, Copy)]
 pub enum Entry<'q, A: Allocator = Global> {
     /// An item, in this level.

@@ -5,7 +5,8 @@ ghost use Rattle.std.specs.List.{list_any};
 ghost use Rattle.query_check.specs.Places.{IsRooted, IsTree, places_of};
 ghost use Rattle.query_check.specs.Seen.{seen_occurrence, seen_variable};
 ghost use Rattle.query_model.specs.Levels.{Path, level_of};
-ghost use Rattle.query_model.specs.Numbers.{add_new, has_this, understands_this, is_this, is_whole, number_from, numbers_from, same_variable, variables};
+ghost use Rattle.query_model.specs.Numbers.{add_new, has_this, understands_this, is_this, is_whole, number_from};
+ghost use Rattle.query_model.specs.Numbers.{numbers_from, same_variable, variables};
 ghost use Rattle.query_model.specs.Scope.{occurrences, owner, sightings};
 ghost use Rattle.query_model.specs.Seen.{seen_part};
 
@@ -22,8 +23,8 @@ pub(crate) struct Variable<'a> {
     pub(crate) level: usize,
 }
 
-/// The variables of a query in the order of their numbers: `$this`, the others of the whole query, and then those of groups, each
-/// by first appearance.
+/// The variables of a query in the order of their numbers: `$this`, the others of the whole query, and then those of
+/// groups, each by first appearance.
 pub(crate) fn variables<'a, A: Allocator + Copy>(
     alloc: A,
     parts: &[Part<'a>],
@@ -144,7 +145,8 @@ pub(crate) fn number_of(scope: &Scope<'_, '_>, name: &[u8], level: usize) -> usi
     requires tree { IsTree scope.now.places.now }
     requires within { level ≤ length scope.now.places.now }
     ensures { (path : Path) → level ≡ level_of path → IsRooted scope.now.places.now path
-        → result ≡ number_from 0 (name.now, owner (map seen_occurrence scope.now.found.now) name.now path) (map seen_variable scope.now.numbered.now) }
+        → result ≡ number_from 0 (name.now, owner (map seen_occurrence scope.now.found.now) name.now path)
+        (map seen_variable scope.now.numbered.now) }
 {
     let variable = Variable {
         name,

@@ -1,16 +1,20 @@
 //! The checked query, and how it is built from a syntax without faults.
 
-ghost use Rattle.std.specs.Prelude.{◌≡◌, ◌<◌, ◌≤◌, ◌==◌, ◌++◌, [], ◌∷◌, ◌↔◌, IsTrue, flat_map, fold, length, map, option_map, slice_get, IfOk, MatchOption};
+ghost use Rattle.std.specs.Prelude.{◌≡◌, ◌<◌, ◌≤◌, ◌==◌, ◌++◌, [], ◌∷◌, ◌↔◌, IsTrue, flat_map, fold, length, map};
+ghost use Rattle.std.specs.Prelude.{option_map, slice_get, IfOk, MatchOption};
 ghost use Rattle.std.specs.Prelude.{Some, Ok, Err};
 ghost use Rattle.std.specs.List.{list_all, list_any};
 ghost use Rattle.query_check.specs.Found.{AreFound, IsFound, follows_ref, inherited_ref};
 ghost use Rattle.query_check.specs.Places.{IsRooted, IsTree, places_of};
 ghost use Rattle.query_check.specs.Numbered.{places_from};
-ghost use Rattle.query_check.specs.Seen.{level_uses, seen_cascading, seen_entry, seen_item, seen_occurrence, seen_piece, seen_use, seen_variable, syntax_of};
+ghost use Rattle.query_check.specs.Seen.{level_uses, seen_cascading, seen_entry, seen_item, seen_occurrence};
+ghost use Rattle.query_check.specs.Seen.{seen_piece, seen_use, seen_variable, syntax_of};
 ghost use Rattle.query_model.specs.Levels.{Path, alternatives, level_of, placed_parts, with_alternatives};
 ghost use Rattle.query_model.specs.Cascades.{cascades as cascades_in};
-ghost use Rattle.query_model.specs.Query.{add_mention, cascade_of, chain_of, checked_equality, checked_query, checked_term, entity_cascaded, entity_of};
-ghost use Rattle.query_model.specs.Query.{checked_entries, is_definite_target, on_source_of, pieces_of, pieces_of_part, ref_of, mention_of, mentioned_by};
+ghost use Rattle.query_model.specs.Query.{add_mention, cascade_of, chain_of, checked_equality, checked_query};
+ghost use Rattle.query_model.specs.Query.{checked_term, entity_cascaded, entity_of};
+ghost use Rattle.query_model.specs.Query.{checked_entries, is_definite_target, on_source_of, pieces_of, pieces_of_part};
+ghost use Rattle.query_model.specs.Query.{ref_of, mention_of, mentioned_by};
 ghost use Rattle.query_model.specs.Query.{is_as_checked, is_current, source_of, up_of, visible_names};
 ghost use Rattle.query_model.specs.Faults.{fault_at};
 ghost use Rattle.query_model.specs.Local.{is_local, is_simple};
@@ -87,7 +91,8 @@ pub enum Piece<A: Allocator = Global> {
 
 /// A checked query: names are entities, understood sources and flags are written out, and variables go by numbers.
 ///
-/// Items go by numbers too, in the order of the text, a group before the items inside it; a Not term is a group with one item.
+/// Items go by numbers too, in the order of the text, a group before the items inside it; a Not term is a group with
+/// one item.
 pub struct Query<A: Allocator = Global> {
     variables: Vec<Vec<u8, A>, A>,
     has_this: bool,
@@ -203,7 +208,8 @@ impl<A: Allocator> Query<A> {
         self.mentions.as_slice()
     }
 
-    /// The fault of a query whose matches are told when they come and go, which needs `$this`: NoThis at the whole text.
+    /// The fault of a query whose matches are told when they come and go, which needs `$this`: NoThis at the whole
+    /// text.
     pub fn monitor_fault(&self) -> Option<Fault>
         ensures { MatchOption result (monitored self.now ≡ Ok self.now) (λ fault. monitored self.now ≡ Err fault) }
     {
@@ -214,8 +220,8 @@ impl<A: Allocator> Query<A> {
         }
     }
 
-    /// The fault of a query whose ids are told when they are added, removed or set: NoThis, or NotOneTerm where it isn't one term
-    /// that must match, asks `$this` itself and names no other variable. Both are at the whole text.
+    /// The fault of a query whose ids are told when they are added, removed or set: NoThis, or NotOneTerm where it
+    /// isn't one term that must match, asks `$this` itself and names no other variable. Both are at the whole text.
     pub fn observer_fault(&self) -> Option<Fault>
         ensures { MatchOption result (observed self.now ≡ Ok self.now) (λ fault. observed self.now ≡ Err fault) }
     {
@@ -237,16 +243,16 @@ impl<A: Allocator> Query<A> {
         fault_at(kind, Span { start: 0, end })
     }
 
-    /// Whether the query is local: `$this` is its one variable, and every term, inside groups too, asks it itself, for stored ids.
-    /// Then an entity's own ids decide whether it is `$this` of an answer.
+    /// Whether the query is local: `$this` is its one variable, and every term, inside groups too, asks it itself, for
+    /// stored ids. Then an entity's own ids decide whether it is `$this` of an answer.
     pub fn is_local(&self) -> bool
         ensures { result ≡ is_local self.now }
     {
         self.has_this && self.variables.len() == 1 && are_local(self.pieces.as_slice())
     }
 
-    /// Whether the query is simple: it has no groups and no equalities, every term asks `$this` itself for one stored id, and at least one
-    /// must match.
+    /// Whether the query is simple: it has no groups and no equalities, every term asks `$this` itself for one stored
+    /// id, and at least one must match.
     pub fn is_simple(&self) -> bool
         ensures { result ≡ is_simple self.now }
     {
@@ -316,7 +322,8 @@ pub(crate) fn build<'a, A: Allocator + Copy, W: Lookup>(
     requires found { AreFound (W.known world.now) uses.now }
     requires occurrences { map seen_occurrence found.now ≡ sightings (map seen_part parts.now) }
     requires cascades { map seen_cascading cascades.now ≡ cascades_in (map seen_part parts.now) }
-    ensures { IfOk result (λ query. query ≡ checked_query (W.known world.now) (syntax_of (map seen_part parts.now) text_length)) }
+    ensures { IfOk result (λ query. query ≡ checked_query (W.known world.now)
+        (syntax_of (map seen_part parts.now) text_length)) }
 {
     let numbered = variables(alloc, parts, places, found)?;
     let numbered = numbered.as_slice();
@@ -470,7 +477,8 @@ pub(crate) fn pieces<A: Allocator + Copy, W: Lookup>(
     requires length { length scope.now.places.now ≡ length parts.now }
     requires tree { IsTree scope.now.places.now }
     ensures { IfOk result (λ pieces. map seen_piece pieces.items
-        ≡ flat_map (pieces_of_part (W.known world.now) (map seen_occurrence scope.now.found.now) (map seen_variable scope.now.numbered.now))
+        ≡ flat_map (pieces_of_part (W.known world.now) (map seen_occurrence scope.now.found.now)
+        (map seen_variable scope.now.numbered.now))
         (with_alternatives (placed_parts (map seen_part parts.now)))) }
 {
     let mut pieces = Vec::new(alloc);
@@ -502,7 +510,8 @@ fn add_pieces<A: Allocator + Copy, W: Lookup>(
     requires within { level ≤ length scope.now.places.now }
     ensures { IfOk result (λ _. (path : Path) → level ≡ level_of path → IsRooted scope.now.places.now path
         → map seen_piece pieces.new.items ≡ map seen_piece pieces.old.items
-        ++ pieces_of (W.known world.now) (map seen_occurrence scope.now.found.now) (map seen_variable scope.now.numbered.now) path
+        ++ pieces_of (W.known world.now) (map seen_occurrence scope.now.found.now)
+        (map seen_variable scope.now.numbered.now) path
         (alternatives (map seen_part behind.now)) (seen_part part.now)) }
 {
     match part {
@@ -532,7 +541,8 @@ fn add_pieces<A: Allocator + Copy, W: Lookup>(
 
 /// Adds an item.
 fn add_item<A: Allocator>(item: Item<A>, pieces: &mut Vec<Piece<A>, A>) -> Result<(), AllocError>
-    ensures { IfOk result (λ _. map seen_piece pieces.new.items ≡ map seen_piece pieces.old.items ++ specs.item (seen_item item) ∷ []) }
+    ensures { IfOk result (λ _. map seen_piece pieces.new.items
+        ≡ map seen_piece pieces.old.items ++ specs.item (seen_item item) ∷ []) }
 {
     pieces.reserve(1)?;
     pieces.push_reserved(Piece::Item(item));
@@ -548,7 +558,8 @@ fn add_opening<A: Allocator + Copy>(
     pieces: &mut Vec<Piece<A>, A>,
 ) -> Result<(), AllocError>
     ensures { IfOk result (λ _. map seen_piece pieces.new.items
-        ≡ map seen_piece pieces.old.items ++ specs.opening from_term (numbers_from 0 level (map seen_variable scope.now.numbered.now)) ∷ []) }
+        ≡ map seen_piece pieces.old.items ++ specs.opening from_term
+        (numbers_from 0 level (map seen_variable scope.now.numbered.now)) ∷ []) }
 {
     pieces.reserve(1)?;
     let own = own_numbers(alloc, scope.numbered, level)?;
@@ -558,7 +569,8 @@ fn add_opening<A: Allocator + Copy>(
 
 /// Adds the end of a group.
 fn add_closing<A: Allocator>(pieces: &mut Vec<Piece<A>, A>) -> Result<(), AllocError>
-    ensures { IfOk result (λ _. map seen_piece pieces.new.items ≡ map seen_piece pieces.old.items ++ specs.closing ∷ []) }
+    ensures { IfOk result (λ _. map seen_piece pieces.new.items
+        ≡ map seen_piece pieces.old.items ++ specs.closing ∷ []) }
 {
     pieces.reserve(1)?;
     pieces.push_reserved(Piece::Closing);
@@ -578,9 +590,11 @@ fn add_chain<A: Allocator, W: Lookup>(
     requires tree { IsTree scope.now.places.now }
     requires within { level ≤ length scope.now.places.now }
     ensures { IfOk result (λ _. (path : Path) → level ≡ level_of path → IsRooted scope.now.places.now path
-        → let term_at = checked_term (W.known world.now) (map seen_occurrence scope.now.found.now) (map seen_variable scope.now.numbered.now) path in
+        → let term_at = checked_term (W.known world.now) (map seen_occurrence scope.now.found.now)
+        (map seen_variable scope.now.numbered.now) path in
         map seen_piece pieces.new.items ≡ map seen_piece pieces.old.items
-        ++ specs.item (chain_of (term_at (seen_term term.now)) (map term_at (alternatives (map seen_part behind.now)))) ∷ []) }
+        ++ specs.item (chain_of (term_at (seen_term term.now)) (map term_at
+        (alternatives (map seen_part behind.now)))) ∷ []) }
 {
     let first = term_of(world, scope, level, term);
     if !has_alternative(behind) {
@@ -612,7 +626,8 @@ fn add_alternatives<A: Allocator, W: Lookup>(
     requires tree { IsTree scope.now.places.now }
     requires within { level ≤ length scope.now.places.now }
     ensures { IfOk result (λ _. (path : Path) → level ≡ level_of path → IsRooted scope.now.places.now path
-        → all.new.items ≡ all.old.items ++ map (checked_term (W.known world.now) (map seen_occurrence scope.now.found.now)
+        → all.new.items ≡ all.old.items ++ map (checked_term (W.known world.now)
+        (map seen_occurrence scope.now.found.now)
         (map seen_variable scope.now.numbered.now) path) (alternatives (map seen_part parts.now))) }
 {
     for part in parts {
@@ -629,7 +644,8 @@ fn term_of<W: Lookup>(world: &W, scope: &Scope<'_, '_>, level: usize, term: &Ter
     requires tree { IsTree scope.now.places.now }
     requires within { level ≤ length scope.now.places.now }
     ensures { (path : Path) → level ≡ level_of path → IsRooted scope.now.places.now path
-        → result ≡ checked_term (W.known world.now) (map seen_occurrence scope.now.found.now) (map seen_variable scope.now.numbered.now) path
+        → result ≡ checked_term (W.known world.now) (map seen_occurrence scope.now.found.now)
+        (map seen_variable scope.now.numbered.now) path
         (seen_term term.now) }
 {
     let risen = up_of(world, &term.flags);
@@ -657,7 +673,8 @@ fn target_of<W: Lookup>(
     requires tree { IsTree scope.now.places.now }
     requires within { level ≤ length scope.now.places.now }
     ensures { (path : Path) → level ≡ level_of path → IsRooted scope.now.places.now path
-        → result ≡ option_map (ref_of (W.known world.now) (map seen_occurrence scope.now.found.now) (map seen_variable scope.now.numbered.now) path)
+        → result ≡ option_map (ref_of (W.known world.now) (map seen_occurrence scope.now.found.now)
+        (map seen_variable scope.now.numbered.now) path)
         (option_map seen_reference target.now) }
 {
     match target {
@@ -676,7 +693,8 @@ fn source_of<W: Lookup>(
     requires tree { IsTree scope.now.places.now }
     requires within { level ≤ length scope.now.places.now }
     ensures { (path : Path) → level ≡ level_of path → IsRooted scope.now.places.now path
-        → result ≡ source_of (W.known world.now) (map seen_occurrence scope.now.found.now) (map seen_variable scope.now.numbered.now) path
+        → result ≡ source_of (W.known world.now) (map seen_occurrence scope.now.found.now)
+        (map seen_variable scope.now.numbered.now) path
         (option_map seen_reference source.now) }
 {
     match source {
@@ -695,7 +713,8 @@ fn ref_of<W: Lookup>(
     requires tree { IsTree scope.now.places.now }
     requires within { level ≤ length scope.now.places.now }
     ensures { (path : Path) → level ≡ level_of path → IsRooted scope.now.places.now path
-        → result ≡ ref_of (W.known world.now) (map seen_occurrence scope.now.found.now) (map seen_variable scope.now.numbered.now) path
+        → result ≡ ref_of (W.known world.now) (map seen_occurrence scope.now.found.now)
+        (map seen_variable scope.now.numbered.now) path
         (seen_reference reference.now) }
 {
     match reference.spoken {
@@ -776,7 +795,8 @@ fn equality<A: Allocator, W: Lookup>(
     requires tree { IsTree scope.now.places.now }
     requires within { level ≤ length scope.now.places.now }
     ensures { (path : Path) → level ≡ level_of path → IsRooted scope.now.places.now path
-        → seen_item result ≡ checked_equality (W.known world.now) (map seen_occurrence scope.now.found.now) (map seen_variable scope.now.numbered.now) path
+        → seen_item result ≡ checked_equality (W.known world.now) (map seen_occurrence scope.now.found.now)
+        (map seen_variable scope.now.numbered.now) path
         (seen_reference left.now).spoken same (seen_reference right.now) }
 {
     let other = ref_of(world, scope, level, right);

@@ -5,7 +5,8 @@ ghost use Rattle.std.specs.List.{list_all};
 ghost use Rattle.query_check.specs.Places.{IsRooted, IsTree, places_of};
 ghost use Rattle.query_check.specs.Seen.{as_alternative, seen_occurrence, seen_use, sighting_of};
 ghost use Rattle.query_model.specs.Levels.{Path, alternatives, level_of};
-ghost use Rattle.query_model.specs.Scope.{binds, is_bound, is_sighting_of, is_variable, is_variable_if_written, is_word, names_variable, occurs_in, owner};
+ghost use Rattle.query_model.specs.Scope.{binds, is_bound, is_sighting_of, is_variable, is_variable_if_written};
+ghost use Rattle.query_model.specs.Scope.{is_word, names_variable, occurs_in, owner};
 ghost use Rattle.query_model.specs.Seen.{seen_part, seen_reference, seen_term};
 
 use crate::places::PartPlace;
@@ -64,8 +65,8 @@ pub(crate) fn name_of<'a>(variable: &'a str) -> &'a [u8]
     }
 }
 
-/// The level to which a variable belongs that occurs in a level: the outermost on the way to the whole query in which its name
-/// occurs directly.
+/// The level to which a variable belongs that occurs in a level: the outermost on the way to the whole query in which
+/// its name occurs directly.
 pub(crate) fn owner(
     places: &[PartPlace],
     occurrences: &[Occurrence<'_>],
@@ -74,7 +75,8 @@ pub(crate) fn owner(
 ) -> usize
     requires tree { IsTree places.now }
     requires within { level ≤ length places.now }
-    ensures { (path : Path) → level ≡ level_of path → IsRooted places.now path → result ≡ owner (map seen_occurrence occurrences.now) name.now path }
+    ensures { (path : Path) → level ≡ level_of path → IsRooted places.now path
+        → result ≡ owner (map seen_occurrence occurrences.now) name.now path }
 {
     if name == THIS || occurs_in(occurrences, name, 0) {
         return 0;

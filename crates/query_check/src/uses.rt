@@ -50,8 +50,10 @@ fn add_part<'a, A: Allocator, W: Lookup>(
     part: &Part<'a>,
     uses: &mut Vec<Use<'a>, A>,
 ) -> Result<(), AllocError>
-    ensures uses { IfOk result (λ _. map seen_use uses.new.items ≡ map seen_use uses.old.items ++ map (at_level level) (uses_of (seen_part part.now))) }
-    ensures found { AreFound (W.known world.now) uses.old.items → IfOk result (λ _. AreFound (W.known world.now) uses.new.items) }
+    ensures uses { IfOk result (λ _. map seen_use uses.new.items
+        ≡ map seen_use uses.old.items ++ map (at_level level) (uses_of (seen_part part.now))) }
+    ensures found { AreFound (W.known world.now) uses.old.items
+        → IfOk result (λ _. AreFound (W.known world.now) uses.new.items) }
 {
     match part {
         Part::Term(_, term) => add_term(world, level, term, uses),
@@ -70,8 +72,10 @@ fn add_term<'a, A: Allocator, W: Lookup>(
     term: &TermSyntax<'a>,
     uses: &mut Vec<Use<'a>, A>,
 ) -> Result<(), AllocError>
-    ensures uses { IfOk result (λ _. map seen_use uses.new.items ≡ map seen_use uses.old.items ++ map (at_level level) (uses_of_term (seen_term term.now))) }
-    ensures found { AreFound (W.known world.now) uses.old.items → IfOk result (λ _. AreFound (W.known world.now) uses.new.items) }
+    ensures uses { IfOk result (λ _. map seen_use uses.new.items
+        ≡ map seen_use uses.old.items ++ map (at_level level) (uses_of_term (seen_term term.now))) }
+    ensures found { AreFound (W.known world.now) uses.old.items
+        → IfOk result (λ _. AreFound (W.known world.now) uses.new.items) }
 {
     add(world, level, Position::Component, &term.component, uses)?;
     add_written(world, level, Position::Source, &term.source, uses)?;
@@ -90,8 +94,10 @@ fn add_written<'a, A: Allocator, W: Lookup>(
     uses: &mut Vec<Use<'a>, A>,
 ) -> Result<(), AllocError>
     ensures uses { IfOk result (λ _. map seen_use uses.new.items
-        ≡ map seen_use uses.old.items ++ map (at_level level) (written position (option_map seen_reference reference.now))) }
-    ensures found { AreFound (W.known world.now) uses.old.items → IfOk result (λ _. AreFound (W.known world.now) uses.new.items) }
+        ≡ map seen_use uses.old.items ++ map (at_level level) (written position
+        (option_map seen_reference reference.now))) }
+    ensures found { AreFound (W.known world.now) uses.old.items
+        → IfOk result (λ _. AreFound (W.known world.now) uses.new.items) }
 {
     match reference {
         Some(reference) => add(world, level, position, reference, uses),
@@ -108,8 +114,10 @@ fn add<'a, A: Allocator, W: Lookup>(
     uses: &mut Vec<Use<'a>, A>,
 ) -> Result<(), AllocError>
     ensures uses { IfOk result (λ _. map seen_use uses.new.items
-        ≡ map seen_use uses.old.items ++ map (at_level level) (written position (Some (seen_reference reference.now)))) }
-    ensures found { AreFound (W.known world.now) uses.old.items → IfOk result (λ _. AreFound (W.known world.now) uses.new.items) }
+        ≡ map seen_use uses.old.items ++ map (at_level level) (written position
+        (Some (seen_reference reference.now)))) }
+    ensures found { AreFound (W.known world.now) uses.old.items
+        → IfOk result (λ _. AreFound (W.known world.now) uses.new.items) }
 {
     let entity = entity_named(world, reference);
     uses.reserve(1)?;

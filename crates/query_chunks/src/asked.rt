@@ -12,8 +12,8 @@ use query_check::{Item, Piece, Query};
 use query_model::query::{Ref, Term};
 use std::alloc::Allocator;
 
-/// Whether the rows of a query come by table: `$this` is its one variable, and every term asks it itself for one stored id. There may be
-/// And, Optional and Not terms, alternatives and groups, and no `cascade`.
+/// Whether the rows of a query come by table: `$this` is its one variable, and every term asks it itself for one stored
+/// id. There may be And, Optional and Not terms, alternatives and groups, and no `cascade`.
 pub fn has_chunks<B: Allocator>(query: &Query<B>) -> bool
     ensures { result ≡ has_chunks query.now }
 {

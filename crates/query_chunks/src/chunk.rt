@@ -4,7 +4,8 @@ ghost use Rattle.std.specs.Prelude.{◌≡◌, [], ◌∷◌, IfSome, length, op
 ghost use Rattle.ecs_table.specs.Archetype.{column_of};
 ghost use Rattle.query_check.specs.Seen.{seen_item};
 ghost use Rattle.query_model.specs.Query as model;
-ghost use Rattle.query_chunks.specs.Chunk.{AreWhole, IsWhole, chunk_in, chunk_of, column_of_id, column_of_item, column_of_terms, seen_column};
+ghost use Rattle.query_chunks.specs.Chunk.{AreWhole, IsWhole, chunk_in, chunk_of, column_of_id, column_of_item};
+ghost use Rattle.query_chunks.specs.Chunk.{column_of_terms, seen_column};
 
 use crate::asked::{hit, outer_item};
 use crate::column::Column;
@@ -16,7 +17,8 @@ use query_model::query::Term;
 use std::alloc::{Allocator, Global};
 use std::marker::Model;
 
-/// A table of a world whose entities match a query, as a `TableCursor` gives it. Its fields are read by that query. It takes no memory.
+/// A table of a world whose entities match a query, as a `TableCursor` gives it. Its fields are read by that query. It
+/// takes no memory.
 #[derive(Drop)]
 pub struct MatchingTable<'r, A: Allocator = Global> {
     world: &'r World<A>,
@@ -32,7 +34,8 @@ impl<'r, A: Allocator> Model for MatchingTable<'r, A> {
 
     ghost view = { λ m. record { state = m.world.now.state; key = m.key; table = m.table.now } };
 
-    ghost invariant = { λ m. (q : query.Query) → model.AreWhole (model.chunk_of m.world.now.state q m.key m.table.now) };
+    ghost invariant = { λ m. (q : query.Query) → model.AreWhole
+        (model.chunk_of m.world.now.state q m.key m.table.now) };
 }
 
 impl<'r, A: Allocator> MatchingTable<'r, A> {
@@ -57,8 +60,8 @@ impl<'r, A: Allocator> MatchingTable<'r, A> {
         self.table.rows()
     }
 
-    /// The column of the item with this number among those of the query that show fields, in the order of the text. Those inside groups
-    /// show none.
+    /// The column of the item with this number among those of the query that show fields, in the order of the text.
+    /// Those inside groups show none.
     pub fn column<B: Allocator>(&self, query: &Query<B>, number: usize) -> Option<Column<'r, A>>
         ensures column { option_map seen_column result ≡ slice_get (chunk_in self.now query.now).columns number }
         ensures whole { IfSome result (λ column. IsWhole (length self.now.table.entities) (seen_column column)) }
@@ -107,8 +110,8 @@ impl<'r, A: Allocator, B: Allocator> Chunk<'r, A, B> {
         self.table.entities()
     }
 
-    /// The column of the item with this number among those that show fields, in the order of the text. Those inside groups show none.
-    /// Its bytes are cut into as many values as there are entities by the size of one.
+    /// The column of the item with this number among those that show fields, in the order of the text. Those inside
+    /// groups show none. Its bytes are cut into as many values as there are entities by the size of one.
     pub fn column(&self, number: usize) -> Option<Column<'r, A>>
         ensures column { option_map seen_column result ≡ slice_get self.now.columns number }
         ensures whole { IfSome result (λ column. IsWhole (length self.now.entities) (seen_column column)) }

@@ -20,12 +20,13 @@ use ecs_model::built_ins::{DISABLED, PREFAB};
 use query_check::{Piece, Query};
 use std::alloc::Allocator;
 
-/// Whether an entity, by its index, is `$this` of some row of a local query, in each world in which it lives with just these ids.
-/// Takes no memory.
+/// Whether an entity, by its index, is `$this` of some row of a local query, in each world in which it lives with just
+/// these ids. Takes no memory.
 #[tactic(auto, using(crate::proofs::LocalMatches::judged_matches))]
 pub fn judge<A: Allocator>(query: &Query<A>, entity: u32, ids: &[Id]) -> bool
     requires { IsLocal query.now }
-    ensures { (w : View) → Contains w.entities entity → w.ids entity ≡ ids.now → result ≡ contains (matching w query.now) entity }
+    ensures { (w : View) → Contains w.entities entity → w.ids entity ≡ ids.now
+        → result ≡ contains (matching w query.now) entity }
 {
     judged(query, entity, ids)
 }

@@ -3,12 +3,14 @@
 ghost use Rattle.std.specs.Prelude.{◌≡◌, ◌+◌, ◌<◌, ◌≤◌, ◌^◌};
 ghost use Rattle.query_local.specs.Judging.{at_end, end_of_failed, end_of_holding, open_groups, with_item};
 
-/// What is known of the levels that are open behind some pieces. The whole query has depth 0, and a group one more than the level around it.
+/// What is known of the levels that are open behind some pieces. The whole query has depth 0, and a group one more than
+/// the level around it.
 #[derive(Clone, Copy)]
 pub(crate) enum Nesting {
     /// The innermost level has this depth, and no level is known not to hold.
     Holding(usize),
-    /// The level of this depth doesn't hold, and so many groups are open inside it, which don't matter. No level around it is known not to hold.
+    /// The level of this depth doesn't hold, and so many groups are open inside it, which don't matter. No level around
+    /// it is known not to hold.
     Failed(usize, usize),
 }
 
@@ -49,7 +51,8 @@ pub(crate) fn end_of_failed(depth: usize, inside: usize) -> Nesting
     }
 }
 
-/// Whether the whole query holds, where all groups end: a level around one that holds doesn't, and one around one that doesn't does.
+/// Whether the whole query holds, where all groups end: a level around one that holds doesn't, and one around one that
+/// doesn't does.
 pub(crate) fn at_end(nesting: Nesting) -> bool
     ensures { result ≡ at_end nesting }
 {

@@ -14,15 +14,16 @@ use ecs_id::Id;
 use query_check::Query;
 use std::alloc::{AllocError, Allocator};
 
-/// The entities, by their indexes in ascending order, that are `$this` of some row before a command and of none after it, and the other way round.
+/// The entities, by their indexes in ascending order, that are `$this` of some row before a command and of none after
+/// it, and the other way round.
 #[derive(Drop)]
 pub struct Told<A: Allocator> {
     pub left: Vec<u32, A>,
     pub entered: Vec<u32, A>,
 }
 
-/// Who leaves and who enters the rows of a local query, of all entities, between two worlds that differ in what the touched ones hold alone.
-/// It is handed neither world.
+/// Who leaves and who enters the rows of a local query, of all entities, between two worlds that differ in what the
+/// touched ones hold alone. It is handed neither world.
 pub fn local_told<A: Allocator + Copy>(
     alloc: A,
     query: &Query<A>,
@@ -31,9 +32,12 @@ pub fn local_told<A: Allocator + Copy>(
     requires local { IsLocal query.now }
     requires ascends { IsStrictlyIncreasing (map (λ t. t.index) touched.now) }
     ensures left { IfOk result (λ told. (w v : View) → IsStrictlyIncreasing w.entities → IsStrictlyIncreasing v.entities
-        → AreTouched (map touch_of touched.now) w v → told.left.items ≡ missing_from (matching w query.now) (matching v query.now)) }
-    ensures entered { IfOk result (λ told. (w v : View) → IsStrictlyIncreasing w.entities → IsStrictlyIncreasing v.entities
-        → AreTouched (map touch_of touched.now) w v → told.entered.items ≡ missing_from (matching v query.now) (matching w query.now)) }
+        → AreTouched (map touch_of touched.now) w v → told.left.items
+        ≡ missing_from (matching w query.now) (matching v query.now)) }
+    ensures entered { IfOk result (λ told. (w v : View) → IsStrictlyIncreasing w.entities
+        → IsStrictlyIncreasing v.entities
+        → AreTouched (map touch_of touched.now) w v → told.entered.items
+        ≡ missing_from (matching v query.now) (matching w query.now)) }
 {
     told_of(alloc, query, touched)
 }
@@ -44,8 +48,10 @@ fn told_of<A: Allocator + Copy>(
     query: &Query<A>,
     touched: &[Touched<'_, A>],
 ) -> Result<Told<A>, AllocError>
-    ensures left { IfOk result (λ told. told.left.items ≡ map (λ t. t.index) (filter (λ t. leaves query.now (touch_of t)) touched.now)) }
-    ensures entered { IfOk result (λ told. told.entered.items ≡ map (λ t. t.index) (filter (λ t. enters query.now (touch_of t)) touched.now)) }
+    ensures left { IfOk result (λ told. told.left.items ≡ map (λ t. t.index)
+        (filter (λ t. leaves query.now (touch_of t)) touched.now)) }
+    ensures entered { IfOk result (λ told. told.entered.items ≡ map (λ t. t.index)
+        (filter (λ t. enters query.now (touch_of t)) touched.now)) }
 {
     let mut left = Vec::new(alloc);
     let mut entered = Vec::new(alloc);

@@ -1,9 +1,13 @@
 //! What is proved of the rows of queries and of plans: each function's contract is a law, and its body does nothing.
 
-ghost use Rattle.query_meaning.specs.Laws.{CheckedQueriesAreSound, CheckedQueriesGoUpWithoutCycles, CheckedQueriesNameTheLiving, ItemsGoByNumber, LocalByIds};
-ghost use Rattle.query_meaning.specs.Laws.{PlansGiveAllRows, PlansGiveRows, RowsAreAnswers, RowsAreDistinct, RowsAreTheirIds, WorldsHaveNoRepeats};
-ghost use Rattle.query_meaning.specs.Standing.{AskedQueriesAreCurrent, CurrentQueriesGoUpWithoutCycles, CurrentQueriesNameTheLiving};
-ghost use Rattle.query_meaning.specs.Standing.{CurrentQueriesOrderWithoutCycles, PinsKeepQueriesCurrent, PinsKeepViews, StepsKeepPins, StepsKeepQueriesCurrent};
+ghost use Rattle.query_meaning.specs.Laws.{CheckedQueriesAreSound, CheckedQueriesGoUpWithoutCycles};
+ghost use Rattle.query_meaning.specs.Laws.{CheckedQueriesNameTheLiving, ItemsGoByNumber, LocalByIds};
+ghost use Rattle.query_meaning.specs.Laws.{PlansGiveAllRows, PlansGiveRows, RowsAreAnswers, RowsAreDistinct};
+ghost use Rattle.query_meaning.specs.Laws.{RowsAreTheirIds, WorldsHaveNoRepeats};
+ghost use Rattle.query_meaning.specs.Standing.{AskedQueriesAreCurrent, CurrentQueriesGoUpWithoutCycles};
+ghost use Rattle.query_meaning.specs.Standing.{CurrentQueriesNameTheLiving};
+ghost use Rattle.query_meaning.specs.Standing.{CurrentQueriesOrderWithoutCycles, PinsKeepQueriesCurrent, PinsKeepViews};
+ghost use Rattle.query_meaning.specs.Standing.{StepsKeepPins, StepsKeepQueriesCurrent};
 
 /// Law: what the others ask of a query, every query has that a text asks.
 pub fn checked_queries_are_sound()
@@ -35,7 +39,8 @@ pub fn current_queries_go_up_without_cycles()
     ensures { CurrentQueriesGoUpWithoutCycles }
 {}
 
-/// Law: a query that is current in a well-formed world orders its rows along a relationship without cycles, where it orders them by depth.
+/// Law: a query that is current in a well-formed world orders its rows along a relationship without cycles, where it
+/// orders them by depth.
 pub fn current_queries_order_without_cycles()
     ensures { CurrentQueriesOrderWithoutCycles }
 {}

@@ -1,4 +1,5 @@
-//! What is proved of the tokens, the syntax and the faults of query text: each function's contract is a law, and its body does nothing.
+//! What is proved of the tokens, the syntax and the faults of query text: each function's contract is a law, and its
+//! body does nothing.
 
 ghost use Rattle.query_model.specs.FirstOccurrence.{FirstSuffices, FirstSufficesInTexts, VariablesAscend};
 ghost use Rattle.query_model.specs.Laws.{OneSpelling, OneSyntax, PartsAreGrammatical, TokensAreSpelled};
@@ -30,21 +31,21 @@ pub fn the_variables_of_a_text_ascend()
     ensures { VariablesAscend }
 {}
 
-/// Law: it is enough to tell a variable that isn't bound at its first occurrence, since the least fault is the same: for each text, and
-/// for any parts whose variables stand in the order of the text.
+/// Law: it is enough to tell a variable that isn't bound at its first occurrence, since the least fault is the same:
+/// for each text, and for any parts whose variables stand in the order of the text.
 pub fn a_variable_is_told_at_its_first_occurrence()
     ensures of_texts { FirstSufficesInTexts }
     ensures of_parts { FirstSuffices }
 {}
 
-/// Law: in a checked query no source and no side of an equality is a wildcard, and a term that follows its relationship as transitive or
-/// reflexive follows a name, to an entity or a variable, and asks no ancestors.
+/// Law: in a checked query no source and no side of an equality is a wildcard, and a term that follows its relationship
+/// as transitive or reflexive follows a name, to an entity or a variable, and asks no ancestors.
 pub fn terms_of_a_checked_query_are_sound()
     ensures { TermsAreSound }
 {}
 
-/// Law: each item of a checked query uses only variables that are in scope where it stands, visible ones and those of the groups around it:
-/// for each syntax of tokens, and for each query that a text asks.
+/// Law: each item of a checked query uses only variables that are in scope where it stands, visible ones and those of
+/// the groups around it: for each syntax of tokens, and for each query that a text asks.
 pub fn a_checked_query_uses_variables_in_scope()
     ensures of_syntaxes { QueriesAreScoped }
     ensures of_texts { QueriesOfTextsAreScoped }

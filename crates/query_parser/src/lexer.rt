@@ -5,7 +5,8 @@ ghost use Rattle.std.specs.Prelude.{drop, length, map, nat_eq, slice_range, take
 ghost use Rattle.std.specs.List.{find, prefix_len, starts_with};
 ghost use Rattle.query_model.specs.Laws.{EndsInEnd};
 ghost use Rattle.query_model.specs.Text.{is_letter, is_name_byte, is_query_blank, is_word_byte};
-ghost use Rattle.query_model.specs.Tokens.{IsLexFault, IsSpelledBy, Variable, char_len, marks, sign_at, spelled, spelling, tokens_of, variable_at};
+ghost use Rattle.query_model.specs.Tokens.{IsLexFault, IsSpelledBy, Variable, char_len, marks, sign_at, spelled};
+ghost use Rattle.query_model.specs.Tokens.{spelling, tokens_of, variable_at};
 ghost use Rattle.query_parser.specs.Lexed.{Answers, AnswersBy, next_of};
 ghost use Rattle.query_parser.specs.Token.{AreSlicesOf, Ascend, seen, sign_of, text_length};
 
@@ -133,7 +134,8 @@ fn variable_len(rest: &[u8]) -> Option<usize>
     requires { 0 < length rest.now }
     ensures { MatchOption result (variable_at (drop 1 rest.now) ≡ None)
         (λ len. (len ≡ 1 + prefix_len is_word_byte (drop 1 rest.now)) × (len ≤ length rest.now)
-        × (variable_at (drop 1 rest.now) ≡ Some (Variable (take (prefix_len is_word_byte (drop 1 rest.now)) (drop 1 rest.now))))) }
+        × (variable_at (drop 1 rest.now) ≡ Some (Variable (take (prefix_len is_word_byte (drop 1 rest.now))
+        (drop 1 rest.now))))) }
 {
     let name = &rest[1..];
     if name.is_empty() || !is_letter(name[0]) {

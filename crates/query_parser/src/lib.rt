@@ -73,7 +73,8 @@ fn complete<'a, A: Allocator + Copy>(
     draft: &Draft<'a>,
     go: Move,
 ) -> Result<(), AllocError>
-    ensures { IfOk result (λ _. map seen_part parts.new.items ≡ map seen_part parts.old.items ++ completed draft.now go.part go.nesting) }
+    ensures { IfOk result (λ _. map seen_part parts.new.items ≡ map seen_part parts.old.items
+        ++ completed draft.now go.part go.nesting) }
 {
     match go.part {
         Completed::Nothing => {}
@@ -87,14 +88,16 @@ fn complete<'a, A: Allocator + Copy>(
     Ok(())
 }
 
-// (a part is large: each kind is made in a function of its own, where there is room already, so a step makes none of the others)
+// (a part is large: each kind is made in a function of its own, where there is room already, so a step makes none of
+// the others)
 
 /// Puts the term that was read behind the parts before it.
 fn put_term<'a, A: Allocator + Copy>(
     parts: &mut Vec<Part<'a>, A>,
     draft: &Draft<'a>,
 ) -> Result<(), AllocError>
-    ensures { IfOk result (λ _. map seen_part parts.new.items ≡ map seen_part parts.old.items ++ seen_part_of draft.now Completed.Term) }
+    ensures { IfOk result (λ _. map seen_part parts.new.items ≡ map seen_part parts.old.items
+        ++ seen_part_of draft.now Completed.Term) }
 {
     parts.reserve(1)?;
     parts.push_reserved(Part::Term(draft.role, draft.term));
@@ -107,7 +110,8 @@ fn put_equality<'a, A: Allocator + Copy>(
     draft: &Draft<'a>,
     same: bool,
 ) -> Result<(), AllocError>
-    ensures { IfOk result (λ _. map seen_part parts.new.items ≡ map seen_part parts.old.items ++ seen_part_of draft.now (Completed.Equality same)) }
+    ensures { IfOk result (λ _. map seen_part parts.new.items ≡ map seen_part parts.old.items
+        ++ seen_part_of draft.now (Completed.Equality same)) }
 {
     parts.reserve(1)?;
     parts.push_reserved(Part::Equality(draft.term.component, same, draft.last));
@@ -119,7 +123,8 @@ fn put_opening<'a, A: Allocator + Copy>(
     parts: &mut Vec<Part<'a>, A>,
     draft: &Draft<'a>,
 ) -> Result<(), AllocError>
-    ensures { IfOk result (λ _. map seen_part parts.new.items ≡ map seen_part parts.old.items ++ seen_part_of draft.now Completed.Opening) }
+    ensures { IfOk result (λ _. map seen_part parts.new.items ≡ map seen_part parts.old.items
+        ++ seen_part_of draft.now Completed.Opening) }
 {
     parts.reserve(1)?;
     parts.push_reserved(Part::Opened(draft.term.span));

@@ -118,7 +118,8 @@ pub fn step<'a>(
     draft: &mut Draft<'a>,
     token: &Token<'a>,
 ) -> Option<Move>
-    ensures { option_map (seen_step depth draft.new) result ≡ machine.step depth (seen_state draft.old state) (seen token.now) }
+    ensures { option_map (seen_step depth draft.new) result ≡ machine.step depth (seen_state draft.old state)
+        (seen token.now) }
 {
     match state {
         State::TermNext(role) => term_step(role, draft, token),
@@ -159,7 +160,13 @@ fn go_to(state: State) -> Move
 
 /// Begins a term. Its span and what else was written of it stay.
 fn begin<'a>(draft: &mut Draft<'a>, role: Role, shows_value: bool, component: Reference<'a>)
-    ensures { draft.new ≡ record draft.old { role = role; term = record (draft.old).term { shows_value = shows_value; component = component.entry } } }
+    ensures { draft.new ≡ record draft.old {
+      role = role;
+      term = record (draft.old).term {
+        shows_value = shows_value;
+        component = component.entry;
+      };
+    } }
 {
     draft.role = role;
     draft.term.shows_value = shows_value;
@@ -225,7 +232,8 @@ fn is_reserved(word: &str) -> bool
 
 /// Behind an item, of which a part may be completed by what follows it.
 fn item_step(depth: usize, may_join: bool, part: Completed, token: &Token<'_>) -> Option<Move>
-    ensures { (draft : item.Draft) → option_map (seen_step depth draft) result ≡ put_first draft part (machine.item_step depth may_join (seen token.now)) }
+    ensures { (draft : item.Draft) → option_map (seen_step depth draft) result
+        ≡ put_first draft part (machine.item_step depth may_join (seen token.now)) }
 {
     match token.kind {
         TokenKind::Mark(Mark::OrOr) if may_join => Some(Move {
@@ -311,7 +319,8 @@ fn behind_along_step(token: &Token<'_>) -> Option<Move>
 
 /// Behind the first reference of a term: its arguments, or what follows the term.
 fn first_step<'a>(depth: usize, draft: &mut Draft<'a>, token: &Token<'a>) -> Option<Move>
-    ensures { option_map (seen_step depth draft.new) result ≡ machine.first_step depth (draft.old).role ((draft.old).term).shows_value
+    ensures { option_map (seen_step depth draft.new) result ≡ machine.first_step depth (draft.old).role
+        ((draft.old).term).shows_value
         (seen_reference ((draft.old).term).component) (seen token.now) }
 {
     match token.kind {
@@ -327,7 +336,8 @@ fn first_step<'a>(depth: usize, draft: &mut Draft<'a>, token: &Token<'a>) -> Opt
 /// Flags, perhaps behind a source: `self`, `up` or `cascade`.
 fn flags_step<'a>(draft: &mut Draft<'a>, token: &Token<'a>) -> Option<Move>
     ensures { (depth : ℕ) → option_map (seen_step depth draft.new) result
-        ≡ machine.flags_step depth (draft.old).role ((draft.old).term).shows_value (seen_reference ((draft.old).term).component)
+        ≡ machine.flags_step depth (draft.old).role ((draft.old).term).shows_value
+        (seen_reference ((draft.old).term).component)
         (option_map seen_reference ((draft.old).term).source) (seen token.now) }
 {
     match token.kind {
@@ -358,7 +368,8 @@ fn rise_step<'a>(own: bool, draft: &mut Draft<'a>, token: &Token<'a>) -> Option<
 /// Behind `self`: `|` and `up`, or what follows flags.
 fn self_step<'a>(draft: &mut Draft<'a>, token: &Token<'a>) -> Option<Move>
     ensures { (depth : ℕ) → option_map (seen_step depth draft.new) result
-        ≡ machine.self_step depth (draft.old).role ((draft.old).term).shows_value (seen_reference ((draft.old).term).component)
+        ≡ machine.self_step depth (draft.old).role ((draft.old).term).shows_value
+        (seen_reference ((draft.old).term).component)
         (option_map seen_reference ((draft.old).term).source) (seen token.now) }
 {
     match token.kind {
@@ -392,7 +403,8 @@ fn raise<'a>(term: &mut TermSyntax<'a>, own: bool, word: RiseWord, along: Option
 /// Behind `up` or `cascade`: its relationship, or what follows flags.
 fn up_step<'a>(own: bool, draft: &mut Draft<'a>, token: &Token<'a>) -> Option<Move>
     ensures { (depth : ℕ) → option_map (seen_step depth draft.new) result
-        ≡ machine.up_step depth (draft.old).role ((draft.old).term).shows_value (seen_reference ((draft.old).term).component)
+        ≡ machine.up_step depth (draft.old).role ((draft.old).term).shows_value
+        (seen_reference ((draft.old).term).component)
         (option_map seen_reference ((draft.old).term).source) own (seen_rise_word (draft.old).word) (seen token.now) }
 {
     match token.kind {
@@ -404,7 +416,8 @@ fn up_step<'a>(own: bool, draft: &mut Draft<'a>, token: &Token<'a>) -> Option<Mo
 /// Behind `up` or `cascade`: a relationship without brackets, or what follows flags.
 fn plain_up_step<'a>(own: bool, draft: &mut Draft<'a>, token: &Token<'a>) -> Option<Move>
     ensures { (depth : ℕ) → option_map (seen_step depth draft.new) result
-        ≡ plain_up_step depth (draft.old).role ((draft.old).term).shows_value (seen_reference ((draft.old).term).component)
+        ≡ plain_up_step depth (draft.old).role ((draft.old).term).shows_value
+        (seen_reference ((draft.old).term).component)
         (option_map seen_reference ((draft.old).term).source) own (seen_rise_word (draft.old).word) (seen token.now) }
 {
     match word(token) {
@@ -422,7 +435,8 @@ fn plain_up_step<'a>(own: bool, draft: &mut Draft<'a>, token: &Token<'a>) -> Opt
 /// The relationship of `up(R)` or `cascade(R)`.
 fn along_step<'a>(own: bool, draft: &mut Draft<'a>, token: &Token<'a>) -> Option<Move>
     ensures { (depth : ℕ) → option_map (seen_step depth draft.new) result
-        ≡ machine.along_next_step depth (draft.old).role ((draft.old).term).shows_value (seen_reference ((draft.old).term).component)
+        ≡ machine.along_next_step depth (draft.old).role ((draft.old).term).shows_value
+        (seen_reference ((draft.old).term).component)
         (option_map seen_reference ((draft.old).term).source) own (seen_rise_word (draft.old).word) (seen token.now) }
 {
     let along = word(token)?;
@@ -433,7 +447,8 @@ fn along_step<'a>(own: bool, draft: &mut Draft<'a>, token: &Token<'a>) -> Option
 /// Behind a source: `|` and flags, or what follows a source.
 fn behind_source_step<'a>(draft: &mut Draft<'a>, token: &Token<'a>) -> Option<Move>
     ensures { (depth : ℕ) → option_map (seen_step depth draft.new) result
-        ≡ machine.behind_source_step depth (draft.old).role ((draft.old).term).shows_value (seen_reference ((draft.old).term).component)
+        ≡ machine.behind_source_step depth (draft.old).role ((draft.old).term).shows_value
+        (seen_reference ((draft.old).term).component)
         (seen_reference (draft.old).last) (seen token.now) }
 {
     draft.term.source = Some(draft.last);
@@ -449,7 +464,8 @@ fn behind_source_step<'a>(draft: &mut Draft<'a>, token: &Token<'a>) -> Option<Mo
 /// The arguments of a term: a source or flags.
 fn source_step<'a>(draft: &mut Draft<'a>, token: &Token<'a>) -> Option<Move>
     ensures { (depth : ℕ) → option_map (seen_step depth draft.new) result
-        ≡ machine.source_step depth (draft.old).role ((draft.old).term).shows_value (seen_reference ((draft.old).term).component) (seen token.now) }
+        ≡ machine.source_step depth (draft.old).role ((draft.old).term).shows_value
+        (seen_reference ((draft.old).term).component) (seen token.now) }
 {
     match reference(token) {
         Some(source) => {
@@ -470,7 +486,8 @@ fn pair_step<'a>(
     draft: &mut Draft<'a>,
     token: &Token<'a>,
 ) -> Option<Move>
-    ensures { (depth : ℕ) → option_map (seen_step depth draft.new) result ≡ machine.pair_step depth role shows_value ((draft.old).term).span (seen token.now) }
+    ensures { (depth : ℕ) → option_map (seen_step depth draft.new) result
+        ≡ machine.pair_step depth role shows_value ((draft.old).term).span (seen token.now) }
 {
     let component = reference(token)?;
     begin(draft, role, shows_value, component);
@@ -487,7 +504,8 @@ fn start_step<'a>(
     draft: &mut Draft<'a>,
     token: &Token<'a>,
 ) -> Option<Move>
-    ensures { (depth : ℕ) → option_map (seen_step depth draft.new) result ≡ machine.start_step depth role shows_value (seen token.now) }
+    ensures { (depth : ℕ) → option_map (seen_step depth draft.new) result
+        ≡ machine.start_step depth role shows_value (seen token.now) }
 {
     if let TokenKind::Mark(Mark::OpenParen) = token.kind {
         draft.term.span = token.span;
@@ -500,7 +518,8 @@ fn start_step<'a>(
 
 /// Behind the word of an access: its bracket.
 fn bracket_step(role: Role, shows_value: bool, token: &Token<'_>) -> Option<Move>
-    ensures { (depth : ℕ) (draft : item.Draft) → option_map (seen_step depth draft) result ≡ machine.bracket_step depth role shows_value (seen token.now) }
+    ensures { (depth : ℕ) (draft : item.Draft) → option_map (seen_step depth draft) result
+        ≡ machine.bracket_step depth role shows_value (seen token.now) }
 {
     match token.kind {
         TokenKind::Mark(Mark::CloseBracket) => Some(go_to(State::BodyNext(role, shows_value))),
@@ -515,7 +534,8 @@ fn body_step<'a>(
     draft: &mut Draft<'a>,
     token: &Token<'a>,
 ) -> Option<Move>
-    ensures { (depth : ℕ) → option_map (seen_step depth draft.new) result ≡ machine.body_step depth role shows_value (seen token.now) }
+    ensures { (depth : ℕ) → option_map (seen_step depth draft.new) result
+        ≡ machine.body_step depth role shows_value (seen token.now) }
 {
     match (role, token.kind) {
         (Role::And, TokenKind::Mark(Mark::Bang)) => Some(go_to(State::BodyNext(
@@ -532,7 +552,8 @@ fn body_step<'a>(
 
 /// The word of an access.
 fn access_step(role: Role, token: &Token<'_>) -> Option<Move>
-    ensures { (depth : ℕ) (draft : item.Draft) → option_map (seen_step depth draft) result ≡ machine.access_step depth role (seen token.now) }
+    ensures { (depth : ℕ) (draft : item.Draft) → option_map (seen_step depth draft) result
+        ≡ machine.access_step depth role (seen token.now) }
 {
     match token.kind {
         TokenKind::Name if is_access(token.text) => Some(go_to(State::BehindAccessWord(
@@ -552,7 +573,8 @@ fn is_access(word: &str) -> bool
 
 /// A term; where nothing stands before it, perhaps an operator or an equality; behind `!` perhaps a group.
 fn term_step<'a>(role: Role, draft: &mut Draft<'a>, token: &Token<'a>) -> Option<Move>
-    ensures { (depth : ℕ) → option_map (seen_step depth draft.new) result ≡ machine.term_step depth role (seen token.now) }
+    ensures { (depth : ℕ) → option_map (seen_step depth draft.new) result
+        ≡ machine.term_step depth role (seen token.now) }
 {
     match role {
         Role::And => match token.kind {
@@ -582,7 +604,8 @@ fn term_step<'a>(role: Role, draft: &mut Draft<'a>, token: &Token<'a>) -> Option
 
 /// A term, perhaps with an access.
 fn plain_term_step<'a>(role: Role, draft: &mut Draft<'a>, token: &Token<'a>) -> Option<Move>
-    ensures { (depth : ℕ) → option_map (seen_step depth draft.new) result ≡ machine.plain_term_step depth role (seen token.now) }
+    ensures { (depth : ℕ) → option_map (seen_step depth draft.new) result
+        ≡ machine.plain_term_step depth role (seen token.now) }
 {
     match token.kind {
         TokenKind::Mark(Mark::OpenBracket) => Some(go_to(State::AccessNext(role))),
@@ -592,7 +615,8 @@ fn plain_term_step<'a>(role: Role, draft: &mut Draft<'a>, token: &Token<'a>) -> 
 
 /// Behind a variable at the front of an item: `==`, `!=`, or what follows a term's first reference.
 fn variable_step<'a>(depth: usize, draft: &mut Draft<'a>, token: &Token<'a>) -> Option<Move>
-    ensures { option_map (seen_step depth draft.new) result ≡ machine.variable_step depth (drop 1 ((draft.old).name).now) ((draft.old).term).span
+    ensures { option_map (seen_step depth draft.new) result ≡ machine.variable_step depth
+        (drop 1 ((draft.old).name).now) ((draft.old).term).span
         (seen token.now) }
 {
     let variable = Reference {

@@ -1,8 +1,10 @@
 //! The columns of a table in one block.
-ghost use Rattle.std.specs.Prelude.{◌≡◌, ℕ, ◌+◌, ◌-◌, ◌*◌, ◌^◌, ◌<◌, ◌≤◌, length, map, min, slice_get, slice_index, slice_index_or, IfOk, Some, OnOk, OnErr};
+ghost use Rattle.std.specs.Prelude.{◌≡◌, ℕ, ◌+◌, ◌-◌, ◌*◌, ◌^◌, ◌<◌, ◌≤◌, length, map, min, slice_get, slice_index};
+ghost use Rattle.std.specs.Prelude.{slice_index_or, IfOk, Some, OnOk, OnErr};
 ghost use Rattle.std.specs.Prelude.{IsOk, IsErr};
 ghost use Rattle.std.specs.List.{concat, fold, sum};
-ghost use Rattle.raw_column.specs.Contents.{HaveOneSize, capacity_of, column_at, empty_contents, most_of, row_bytes, with_column, with_copied, with_item_in};
+ghost use Rattle.raw_column.specs.Contents.{HaveOneSize, capacity_of, column_at, empty_contents, most_of, row_bytes};
+ghost use Rattle.raw_column.specs.Contents.{with_column, with_copied, with_item_in};
 ghost use Rattle.raw_column.specs.Contents.{with_zeros, without_row};
 
 use crate::buffer::Buffer;
@@ -23,11 +25,11 @@ impl From<AllocError> for Memory {
     }
 }
 
-/// Rows of values, by column. In a column each value has as many bytes. It takes memory in `new` and `reserve`, and gives it back in
-/// `shrink_to` and when it is dropped.
+/// Rows of values, by column. In a column each value has as many bytes. It takes memory in `new` and `reserve`, and
+/// gives it back in `shrink_to` and when it is dropped.
 ///
-/// All columns lie in one allocation, one behind the other. The places after the last row are zero, so that a new row is there without
-/// a write. A block without columns counts its rows alone.
+/// All columns lie in one allocation, one behind the other. The places after the last row are zero, so that a new row
+/// is there without a write. A block without columns counts its rows alone.
 #[derive(Drop)]
 pub struct Block<A: Allocator = Global> {
     buffer: Buffer<A>,
@@ -44,7 +46,11 @@ impl<A: Allocator> Model for Block<A> {
 
     ghost Value = { Contents };
 
-    ghost view = { λ b. record { len = b.len; room = b.capacity - b.len; columns = map (first_of b.len) (columns_in b.capacity b.sizes b.buffer) } };
+    ghost view = { λ b. record {
+      len = b.len;
+      room = b.capacity - b.len;
+      columns = map (first_of b.len) (columns_in b.capacity b.sizes b.buffer);
+    } };
 
     ghost invariant = { λ b. IsLaidOut b.sizes b.capacity b.len b.buffer };
 }
@@ -113,7 +119,8 @@ impl<A: Allocator> Block<A> {
         // Room that is there already is never refused, and stays as it is.
         ensures succeeds { additional ≤ self.old.room → IsOk result × (self.new ≡ self.old) }
         ensures too_large { most_of self.old < self.old.len + additional → IsErr result }
-        ensures doubles { self.old.room < additional → OnOk result (min (2 * capacity_of self.old) (most_of self.old) ≤ capacity_of self.new) }
+        ensures doubles { self.old.room < additional → OnOk result (min (2 * capacity_of self.old) (most_of self.old)
+            ≤ capacity_of self.new) }
     {
         if additional <= self.capacity - self.len {
             return Ok(());
@@ -130,8 +137,8 @@ impl<A: Allocator> Block<A> {
         Ok(())
     }
 
-    /// Gives memory back: a smaller block that has places for about `min_capacity` rows, or for all that there are. A block that is
-    /// refused leaves all as it was. Without rows and places nothing is kept.
+    /// Gives memory back: a smaller block that has places for about `min_capacity` rows, or for all that there are. A
+    /// block that is refused leaves all as it was. Without rows and places nothing is kept.
     pub fn shrink_to(&mut self, min_capacity: usize)
         ensures rows { self.new ≡ record self.old { room = self.new.room } }
         ensures capacity { capacity_of self.new ≤ capacity_of self.old }
@@ -221,12 +228,13 @@ impl<A: Allocator> Block<A> {
         self.len = last;
     }
 
-    /// Moves a row to the end of `other`. Each pair tells a column here and one of `other` that gets its value, and the columns that
-    /// aren't told get zeros. The last row of this block fills the gap.
+    /// Moves a row to the end of `other`. Each pair tells a column here and one of `other` that gets its value, and the
+    /// columns that aren't told get zeros. The last row of this block fills the gap.
     pub fn move_row(&mut self, row: usize, other: &mut Block<A>, pairs: &[(usize, usize)])
         requires row { row < self.old.len }
         requires room { 0 < other.old.room }
-        requires within { (k : ℕ) → k < length pairs.now → HaveOneSize self.old other.old (slice_index_or pairs.now k (0, 0)) }
+        requires within { (k : ℕ) → k < length pairs.now → HaveOneSize self.old other.old
+            (slice_index_or pairs.now k (0, 0)) }
         ensures moved { other.new ≡ fold (with_copied self.old row) (with_zeros other.old) pairs.now }
         ensures left { self.new ≡ without_row self.old row }
     {

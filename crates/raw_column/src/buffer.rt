@@ -1,5 +1,6 @@
 //! A run of bytes in a block from an allocator, or none. A clause sees it as its bytes.
-ghost use Rattle.std.specs.Prelude.{◌≡◌, ℕ, ◌+◌, ◌*◌, ◌^◌, ◌<◌, ◌≤◌, [], ◌++◌, length, map, take, drop, replicate, slice_index, IfOk, IfErr, OnOk, OnErr, IsOk};
+ghost use Rattle.std.specs.Prelude.{◌≡◌, ℕ, ◌+◌, ◌*◌, ◌^◌, ◌<◌, ◌≤◌, [], ◌++◌, length, map, take, drop, replicate};
+ghost use Rattle.std.specs.Prelude.{slice_index, IfOk, IfErr, OnOk, OnErr, IsOk};
 ghost use Rattle.std.specs.Prelude.{Some};
 ghost use Rattle.std.specs.List.{sum};
 ghost use Rattle.raw_column.specs.Buffer.{IsPlaced, bytes_of};
@@ -73,8 +74,8 @@ impl<A: Allocator> Buffer<A> {
         }
     }
 
-    /// Removes a row of the columns that lie in these bytes, with places for `capacity` rows. The row `last` fills the gap and becomes
-    /// zeros.
+    /// Removes a row of the columns that lie in these bytes, with places for `capacity` rows. The row `last` fills the
+    /// gap and becomes zeros.
     #[inline(always)]
     pub(crate) fn remove_row<B: Allocator>(
         &mut self,
@@ -86,7 +87,8 @@ impl<A: Allocator> Buffer<A> {
         requires sized { (k : ℕ) → k < length sizes.now → 0 < slice_index sizes.now k }
         requires row { (row ≤ last) × (last < capacity) }
         requires all { (length self.old ≡ capacity * sum sizes.now) × (capacity * sum sizes.now < 2 ^ 63) }
-        ensures columns { columns_in capacity sizes.now self.new ≡ map (gap_filled row last) (columns_in capacity sizes.now self.old) }
+        ensures columns { columns_in capacity sizes.now self.new ≡ map (gap_filled row last)
+            (columns_in capacity sizes.now self.old) }
         ensures len { length self.new ≡ length self.old }
     {
         if let Some(held) = &mut self.allocation {
@@ -96,8 +98,8 @@ impl<A: Allocator> Buffer<A> {
         }
     }
 
-    /// Makes places for `to` rows in each column, where there were places for `from`. The first `len` rows stay, and zeros come after
-    /// them. No bytes take no memory.
+    /// Makes places for `to` rows in each column, where there were places for `from`. The first `len` rows stay, and
+    /// zeros come after them. No bytes take no memory.
     pub(crate) fn grow<B: Allocator>(
         &mut self,
         sizes: &Sizes<B>,
@@ -116,8 +118,8 @@ impl<A: Allocator> Buffer<A> {
         Ok(())
     }
 
-    /// Leaves places for `to` rows in each column, where there were places for `from`. The first `len` rows stay, and zeros come after
-    /// them, also where the smaller block is refused.
+    /// Leaves places for `to` rows in each column, where there were places for `from`. The first `len` rows stay, and
+    /// zeros come after them, also where the smaller block is refused.
     pub(crate) fn shrink<B: Allocator>(
         &mut self,
         sizes: &Sizes<B>,
@@ -165,8 +167,8 @@ impl<A: Allocator> Buffer<A> {
         }
     }
 
-    /// Keeps the first `len` bytes, or has zeros after those that there are. A block of another length that is refused is as it was, but
-    /// for zeros after the first `len` bytes.
+    /// Keeps the first `len` bytes, or has zeros after those that there are. A block of another length that is refused
+    /// is as it was, but for zeros after the first `len` bytes.
     fn set_len(&mut self, len: usize) -> Result<(), AllocError>
         requires { len < 2 ^ 63 }
         ensures ok { OnOk result (self.new ≡ padded len len self.old) }
@@ -196,7 +198,8 @@ fn with_len<A: Allocator>(
     requires placed { IsPlaced held alloc.now }
     requires small { len < 2 ^ 63 }
     ensures ok { IfOk result (λ new. IsPlaced new alloc.now × (bytes_of new ≡ padded len len (bytes_of held))) }
-    ensures err { IfErr result (λ old. IsPlaced old alloc.now × (bytes_of old ≡ padded len (length (bytes_of held)) (bytes_of held))) }
+    ensures err { IfErr result (λ old. IsPlaced old alloc.now ×
+        (bytes_of old ≡ padded len (length (bytes_of held)) (bytes_of held))) }
     ensures free { len ≡ 0 → IsOk result }
 {
     match held {
@@ -251,13 +254,15 @@ impl<A: Allocator> Allocation<A> {
         })
     }
 
-    /// A block of another length, which may be the same one: the first bytes stay, and zeros come after them. Where it is refused, the same
-    /// block with zeros after the first `len` bytes.
+    /// A block of another length, which may be the same one: the first bytes stay, and zeros come after them. Where it
+    /// is refused, the same block with zeros after the first `len` bytes.
     fn with_len(self, alloc: &A, len: usize) -> Result<Allocation<A>, Allocation<A>>
         requires placed { IsPlaced (Some self) alloc.now }
         requires small { len < 2 ^ 63 }
-        ensures ok { IfOk result (λ new. IsPlaced (Some new) alloc.now × (new.bytes.items ≡ padded len len self.bytes.items)) }
-        ensures err { IfErr result (λ old. IsPlaced (Some old) alloc.now × (old.bytes.items ≡ padded len self.len self.bytes.items)) }
+        ensures ok { IfOk result (λ new. IsPlaced (Some new) alloc.now
+            × (new.bytes.items ≡ padded len len self.bytes.items)) }
+        ensures err { IfErr result (λ old. IsPlaced (Some old) alloc.now
+            × (old.bytes.items ≡ padded len self.len self.bytes.items)) }
     {
         let Allocation {
             base,

@@ -1,4 +1,5 @@
-//! The columns of a table: values of fixed sizes in raw memory, column behind column in one block. The type of a value is its size alone.
+//! The columns of a table: values of fixed sizes in raw memory, column behind column in one block. The type of a value
+//! is its size alone.
 #![tactic(auto)]
 
 mod block;

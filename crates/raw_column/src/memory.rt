@@ -1,5 +1,6 @@
 //! The raw layer: a block of bytes from an allocator, reached by a pointer. Every raw pointer of the crate is here.
-ghost use Rattle.std.specs.Prelude.{◌≡◌, ℕ, ◌+◌, ◌^◌, ◌<◌, ◌≤◌, List, [], ◌∷◌, ◌++◌, length, take, drop, replicate, IfOk, MatchResult};
+ghost use Rattle.std.specs.Prelude.{◌≡◌, ℕ, ◌+◌, ◌^◌, ◌<◌, ◌≤◌, List, [], ◌∷◌, ◌++◌, length, take, drop, replicate};
+ghost use Rattle.std.specs.Prelude.{IfOk, MatchResult};
 ghost use Rattle.std.specs.Borrow.{sem};
 ghost use base.Fml.{ftrue};
 ghost use denote.RawPtr.{Ptr};
@@ -73,7 +74,8 @@ pub(crate) fn allocate<A: Allocator>(
     len: usize,
 ) -> Result<(Base, Filling, Deed<A>), AllocError>
     requires { len < 2 ^ 63 }
-    ensures { IfOk result (λ r. (r.1.at ≡ r.0.ptr) × (r.1.items ≡ []) × (r.1.spare ≡ len) × (r.2.at ≡ r.0.ptr) × (r.2.len ≡ len) × (r.2.alloc ≡ alloc.now)) }
+    ensures { IfOk result (λ r. (r.1.at ≡ r.0.ptr) × (r.1.items ≡ []) × (r.1.spare ≡ len) × (r.2.at ≡ r.0.ptr)
+        × (r.2.len ≡ len) × (r.2.alloc ≡ alloc.now)) }
 {
     match alloc.allocate(len, 1) {
         Ok(ptr) => Ok((Base { ptr }, Filling {}, Deed { mark: PhantomData })),
@@ -81,8 +83,8 @@ pub(crate) fn allocate<A: Allocator>(
     }
 }
 
-/// Makes a block of `len` bytes, of which `filled` are written, one of `to`, which may begin elsewhere. What is written stays. A
-/// refused one is as it was.
+/// Makes a block of `len` bytes, of which `filled` are written, one of `to`, which may begin elsewhere. What is written
+/// stays. A refused one is as it was.
 pub(crate) fn grow<A: Allocator>(
     alloc: &A,
     base: Base,
@@ -92,10 +94,12 @@ pub(crate) fn grow<A: Allocator>(
     len: usize,
     to: usize,
 ) -> Result<(Base, Filling, Deed<A>), (Filling, Deed<A>)>
-    requires block { (filling.at ≡ base.ptr) × (length filling.items ≡ filled) × (filled + filling.spare ≡ len) × (deed.at ≡ base.ptr) × (deed.len ≡ len)
+    requires block { (filling.at ≡ base.ptr) × (length filling.items ≡ filled) × (filled + filling.spare ≡ len)
+        × (deed.at ≡ base.ptr) × (deed.len ≡ len)
         × (deed.alloc ≡ alloc.now) }
     requires larger { (len ≤ to) × (to < 2 ^ 63) }
-    ensures { MatchResult result (λ r. (r.1.at ≡ r.0.ptr) × (r.1.items ≡ filling.items) × (filled + r.1.spare ≡ to) × (r.2.at ≡ r.0.ptr) × (r.2.len ≡ to)
+    ensures { MatchResult result (λ r. (r.1.at ≡ r.0.ptr) × (r.1.items ≡ filling.items) × (filled + r.1.spare ≡ to)
+        × (r.2.at ≡ r.0.ptr) × (r.2.len ≡ to)
         × (r.2.alloc ≡ alloc.now)) (λ r. (r.0 ≡ filling) × (r.1 ≡ deed)) }
 {
     let Filling {} = filling;
@@ -116,10 +120,12 @@ pub(crate) fn shrink<A: Allocator>(
     len: usize,
     to: usize,
 ) -> Result<(Base, Filling, Deed<A>), (Filling, Deed<A>)>
-    requires block { (filling.at ≡ base.ptr) × (length filling.items ≡ filled) × (filled + filling.spare ≡ len) × (deed.at ≡ base.ptr) × (deed.len ≡ len)
+    requires block { (filling.at ≡ base.ptr) × (length filling.items ≡ filled) × (filled + filling.spare ≡ len)
+        × (deed.at ≡ base.ptr) × (deed.len ≡ len)
         × (deed.alloc ≡ alloc.now) }
     requires smaller { (filled ≤ to) × (to ≤ len) × (len < 2 ^ 63) }
-    ensures { MatchResult result (λ r. (r.1.at ≡ r.0.ptr) × (r.1.items ≡ filling.items) × (filled + r.1.spare ≡ to) × (r.2.at ≡ r.0.ptr) × (r.2.len ≡ to)
+    ensures { MatchResult result (λ r. (r.1.at ≡ r.0.ptr) × (r.1.items ≡ filling.items) × (filled + r.1.spare ≡ to)
+        × (r.2.at ≡ r.0.ptr) × (r.2.len ≡ to)
         × (r.2.alloc ≡ alloc.now)) (λ r. (r.0 ≡ filling) × (r.1 ≡ deed)) }
 {
     let Filling {} = filling;
@@ -138,7 +144,8 @@ pub(crate) fn deallocate<A: Allocator>(
     bytes: Bytes,
     deed: Deed<A>,
 )
-    requires { (bytes.at ≡ base.ptr) × (length bytes.items ≡ len) × (deed.at ≡ base.ptr) × (deed.len ≡ len) × (deed.alloc ≡ alloc.now) }
+    requires { (bytes.at ≡ base.ptr) × (length bytes.items ≡ len) × (deed.at ≡ base.ptr) × (deed.len ≡ len)
+        × (deed.alloc ≡ alloc.now) }
 {
     let Bytes {} = bytes;
     let Deed { mark: _ } = deed;
@@ -165,7 +172,8 @@ impl Filling {
     pub(crate) fn zeros(self, base: Base, filled: usize, count: usize) -> Filling
         requires place { (base.ptr ≡ self.at) × (filled ≡ length self.items) }
         requires room { (count ≤ self.spare) × (filled + count < 2 ^ 63) }
-        ensures { (result.at ≡ self.at) × (result.items ≡ self.items ++ replicate count 0) × (result.spare + count ≡ self.spare) }
+        ensures { (result.at ≡ self.at) × (result.items ≡ self.items ++ replicate count 0)
+            × (result.spare + count ≡ self.spare) }
     {
         let mut filling = self;
         for i in 0..count {
@@ -190,7 +198,8 @@ impl Bytes {
     /// The same block, in which only the first `kept` bytes count as written.
     pub(crate) fn begun(self, kept: usize) -> Filling
         requires { kept ≤ length self.items }
-        ensures { (result.at ≡ self.at) × (result.items ≡ take kept self.items) × (kept + result.spare ≡ length self.items) }
+        ensures { (result.at ≡ self.at) × (result.items ≡ take kept self.items)
+            × (kept + result.spare ≡ length self.items) }
     {
         let Bytes {} = self;
         Filling {}

@@ -1,5 +1,6 @@
 //! Columns in a run of bytes: one behind the other, each with a place for each of so many rows.
-ghost use Rattle.std.specs.Prelude.{◌≡◌, ◌+◌, ◌*◌, ◌^◌, ◌<◌, ◌≤◌, ◌++◌, length, map, take, drop, replicate, slice_index};
+ghost use Rattle.std.specs.Prelude.{◌≡◌, ◌+◌, ◌*◌, ◌^◌, ◌<◌, ◌≤◌, ◌++◌, length, map, take, drop, replicate};
+ghost use Rattle.std.specs.Prelude.{slice_index};
 ghost use Rattle.std.specs.List.{sum};
 ghost use Rattle.raw_column.specs.Places.{column_resized, columns_in, gap_filled, over, place_of, resized};
 
@@ -21,7 +22,8 @@ pub(crate) fn remove_each<A: Allocator>(
 )
     requires row { (row ≤ last) × (last < capacity) }
     requires all { (length bytes.old ≡ capacity * sum sizes.now) × (capacity * sum sizes.now < 2 ^ 63) }
-    ensures { columns_in capacity sizes.now bytes.new ≡ map (gap_filled row last) (columns_in capacity sizes.now bytes.old) }
+    ensures { columns_in capacity sizes.now bytes.new ≡ map (gap_filled row last)
+        (columns_in capacity sizes.now bytes.old) }
 {
     for column in 0..sizes.count() {
         let size = sizes.size(column);
@@ -73,8 +75,8 @@ fn clear_at(bytes: &mut [u8], at: usize, size: usize)
     clear(&mut bytes[at..at + size]);
 }
 
-/// Moves `size` bytes, also where the places overlap: in runs that don't, from the end to the front on the way up, and from the
-/// front on the way down.
+/// Moves `size` bytes, also where the places overlap: in runs that don't, from the end to the front on the way up, and
+/// from the front on the way down.
 fn shift(bytes: &mut [u8], to: usize, from: usize, size: usize)
     requires { (from + size ≤ length bytes.old) × (to + size ≤ length bytes.old) }
     ensures { bytes.new ≡ over to size bytes.old (take size (drop from bytes.old)) }
@@ -136,8 +138,8 @@ fn place_column<A: Allocator>(
     clear_at(bytes, at + kept, (to - len) * size);
 }
 
-/// Moves columns with places for `from` rows each apart, so that there are places for `to`, from the last one to the first. The first
-/// `len` rows stay, and zeros come after them.
+/// Moves columns with places for `from` rows each apart, so that there are places for `to`, from the last one to the
+/// first. The first `len` rows stay, and zeros come after them.
 pub(crate) fn spread<A: Allocator>(
     bytes: &mut [u8],
     sizes: &Sizes<A>,
@@ -154,8 +156,8 @@ pub(crate) fn spread<A: Allocator>(
     }
 }
 
-/// Moves columns with places for `from` rows each together, so that there are places for `to`, from the first one to the last. The first
-/// `len` rows stay, and zeros come after them.
+/// Moves columns with places for `from` rows each together, so that there are places for `to`, from the first one to
+/// the last. The first `len` rows stay, and zeros come after them.
 pub(crate) fn gather<A: Allocator>(
     bytes: &mut [u8],
     sizes: &Sizes<A>,

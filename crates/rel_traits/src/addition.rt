@@ -47,10 +47,11 @@ impl<A: Allocator + Copy> Additions<A> {
 }
 
 impl<A: Allocator> Additions<A> {
-    /// Lists what comes and goes with a fact that is added to a live entity, with an id of live ones, in place of what was listed before.
+    /// Lists what comes and goes with a fact that is added to a live entity, with an id of live ones, in place of what
+    /// was listed before.
     ///
-    /// It takes time in what a base holds, in what With leads to, and in the ids of the entities of the added facts and of their mirrors, besides the time to
-    /// sort the lists. Memory can be refused only where a list has no room.
+    /// It takes time in what a base holds, in what With leads to, and in the ids of the entities of the added facts and
+    /// of their mirrors, besides the time to sort the lists. Memory can be refused only where a list has no room.
     pub fn gather<G: Graph>(
         &mut self,
         graph: &G,
@@ -62,7 +63,8 @@ impl<A: Allocator> Additions<A> {
         requires mentions { All (Contains (G.entities graph.now)) (mentioned fact.1) }
         ensures size { scratch.new.size ≡ scratch.old.size }
         ensures tells { OnOk result ((w : WorldState) → Sees w (G.entities graph.now) (G.ids graph.now)
-            → TellsAddition w fact self.new.base self.new.added.items self.new.copies.items self.new.came.items self.new.went.items) }
+            → TellsAddition w fact self.new.base self.new.added.items self.new.copies.items self.new.came.items
+            self.new.went.items) }
         ensures live { OnOk result (All (IsOfLive (G.entities graph.now)) self.new.added.items) }
         ensures copies_live { OnOk result (All (IsOfLive (G.entities graph.now)) self.new.copies.items) }
     {

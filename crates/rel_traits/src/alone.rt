@@ -31,11 +31,12 @@ pub enum Arrival {
 /// More than one target.
 struct Several;
 
-/// How a fact comes. One that comes alone, or in the place of another, is no trait, brings no other, copies nothing, and closes no cycle.
+/// How a fact comes. One that comes alone, or in the place of another, is no trait, brings no other, copies nothing,
+/// and closes no cycle.
 ///
-/// Of some facts that come alone or in a place it isn't seen: of one whose relationship leads to the entity, and of a pair of IsA where the
-/// entity has all that its base could give. It takes time in the ids of the fact's component or relationship, in those of its entity where
-/// that is exclusive, and in those of a base.
+/// Of some facts that come alone or in a place it isn't seen: of one whose relationship leads to the entity, and of a
+/// pair of IsA where the entity has all that its base could give. It takes time in the ids of the fact's component or
+/// relationship, in those of its entity where that is exclusive, and in those of a base.
 pub fn arrival_of<G: Holders>(graph: &G, fact: FactKey) -> Arrival
     ensures { Arrives (G.ids graph.now) fact result }
 {
@@ -60,15 +61,18 @@ pub fn arrival_of<G: Holders>(graph: &G, fact: FactKey) -> Arrival
 #[inline(always)]
 pub fn plain_comes_alone(traits: &[Id], id: Id) -> bool
     requires { second_of id ≡ None }
-    ensures { IsTrue result → (ids : ℕ → List IdValue) (e : ℕ) → traits.now ≡ ids (first_of id) → ComesAlone ids (e, id) }
+    ensures { IsTrue result → (ids : ℕ → List IdValue) (e : ℕ) → traits.now ≡ ids (first_of id)
+        → ComesAlone ids (e, id) }
 {
     !is_trait(id) && !has_target(traits, WITH)
 }
 
-/// Whether facts of an id may bring others, where its component or relationship holds these ids, and so has these traits.
+/// Whether facts of an id may bring others, where its component or relationship holds these ids, and so has these
+/// traits.
 fn may_bring(held: &[Id], traits: TraitSet, id: Id) -> bool
     requires { AreTraits held.now traits.0 }
-    ensures { result ≡ false → (ids : ℕ → List IdValue) (e : ℕ) → held.now ≡ ids (first_of id) → brought ids (e, id) ≡ [] }
+    ensures { result ≡ false → (ids : ℕ → List IdValue) (e : ℕ) → held.now ≡ ids (first_of id)
+        → brought ids (e, id) ≡ [] }
 {
     has_target(held, WITH) || id.is_pair() && traits.contains(TraitSet::SYMMETRIC)
 }

@@ -17,8 +17,8 @@ use std::alloc::{AllocError, Allocator};
 
 /// Finds the added set, in order: the fact, and all facts that it brings by With and by Symmetric.
 ///
-/// It changes nothing but its scratch and the list. Memory can be refused only where the list has no room. It takes time in what it
-/// finds, and to put that in order.
+/// It changes nothing but its scratch and the list. Memory can be refused only where the list has no room. It takes
+/// time in what it finds, and to put that in order.
 pub fn closure_add<G: Graph, A: Allocator>(
     graph: &G,
     fact: FactKey,
@@ -31,7 +31,8 @@ pub fn closure_add<G: Graph, A: Allocator>(
     ensures size { scratch.new.size ≡ scratch.old.size }
     ensures added { OnOk result (IsListOf (IsAdded (G.ids graph.now) fact) added.new.items) }
     ensures indexes { OnOk result (All (λ k. IsIndex k.0) added.new.items) }
-    ensures live { All (Contains (G.entities graph.now)) (mentioned fact.1) → OnOk result (All (IsOfLive (G.entities graph.now)) added.new.items) }
+    ensures live { All (Contains (G.entities graph.now)) (mentioned fact.1)
+        → OnOk result (All (IsOfLive (G.entities graph.now)) added.new.items) }
 {
     let _ = graph.size();
     list_added(graph, fact, scratch, added)?;
@@ -99,7 +100,8 @@ fn gather_with<G: Graph, A: Allocator>(graph: &G, scratch: &mut Scratch<A>)
 fn add_symmetric<G: Graph, A: Allocator>(graph: &G, facts: &[FactKey], scratch: &mut Scratch<A>)
     requires { All (λ k. first_of k.1 < scratch.old.size) facts.now }
     ensures size { scratch.new.size ≡ scratch.old.size }
-    ensures grown { IsGrownBy (filter (is_symmetric (G.ids graph.now)) (map (λ k. first_of k.1) facts.now)) scratch.old.found scratch.new.found }
+    ensures grown { IsGrownBy (filter (is_symmetric (G.ids graph.now)) (map (λ k. first_of k.1) facts.now))
+        scratch.old.found scratch.new.found }
 {
     for fact in facts {
         let first = fact.id().first();

@@ -7,7 +7,8 @@ ghost use Rattle.ecs_model.specs.BuiltIns.{dont_inherit_mode, inherit_mode, on_i
 ghost use Rattle.ecs_model.specs.Copied.{has_pair, is_copied as is_copied_of, stays_behind as stays};
 ghost use Rattle.ecs_model.specs.Links.{is_held, target_under as target_of};
 ghost use Rattle.ecs_model.specs.World.{Key, key_cmp};
-ghost use Rattle.rel_traits.specs.Copies.{IsJoined, base_among, base_at, copies_of, copies_of_base, copy_of, gets_copy, has_own, pairs_with, takes_own};
+ghost use Rattle.rel_traits.specs.Copies.{IsJoined, base_among, base_at, copies_of, copies_of_base, copy_of, gets_copy};
+ghost use Rattle.rel_traits.specs.Copies.{has_own, pairs_with, takes_own};
 ghost use Rattle.rel_traits.specs.Copies.{takes_pair_own};
 
 use crate::held_facts::put_in_order;
@@ -22,7 +23,8 @@ use ecs_model::built_ins::{
 use rel_travel::{Graph, target_under};
 use std::alloc::{AllocError, Allocator};
 
-/// Lists the copies that come with an added fact, where these facts are added with it. It answers the base from which they come, if there is one.
+/// Lists the copies that come with an added fact, where these facts are added with it. It answers the base from which
+/// they come, if there is one.
 pub(crate) fn list_copies<G: Graph, A: Allocator>(
     graph: &G,
     fact: FactKey,
@@ -57,7 +59,8 @@ pub(crate) fn join_copies<A: Allocator>(
 /// Puts these facts among others, all in order.
 fn join<A: Allocator>(facts: &[FactKey], all: &mut Vec<FactKey, A>) -> Result<(), AllocError>
     ensures ascend { OnOk result (IsStrictlySortedBy key_cmp all.new.items) }
-    ensures same { OnOk result ((k : Key) → Contains all.new.items k ↔ (Contains all.old.items k ⊎ Contains facts.now k)) }
+    ensures same { OnOk result ((k : Key) → Contains all.new.items k
+        ↔ (Contains all.old.items k ⊎ Contains facts.now k)) }
 {
     all.extend_from_slice(facts)?;
     put_in_order(all);
@@ -137,7 +140,8 @@ fn may_be_copied<G: Graph>(graph: &G, id: Id) -> bool
     !is_left_to_base(traits) && !stays_behind(id) && takes(&[], 0, &[], traits, id)
 }
 
-/// Whether an entity that holds these ids and gets these facts gets a copy of an id of its base, whose component or relationship has these traits.
+/// Whether an entity that holds these ids and gets these facts gets a copy of an id of its base, whose component or
+/// relationship has these traits.
 fn is_copied(traits: &[Id], held: &[Id], entity: u32, added: &[FactKey], id: Id) -> bool
     ensures { result ≡ gets_copy traits.now held.now entity added.now id }
 {
@@ -149,7 +153,8 @@ fn is_copied(traits: &[Id], held: &[Id], entity: u32, added: &[FactKey], id: Id)
 
 /// Whether instances inherit facts of a component or relationship with these traits, or have nothing of them.
 fn is_left_to_base(traits: &[Id]) -> bool
-    ensures { result ≡ is_held traits.now (pair on_instantiate inherit_mode) || is_held traits.now (pair on_instantiate dont_inherit_mode) }
+    ensures { result ≡ is_held traits.now (pair on_instantiate inherit_mode)
+        || is_held traits.now (pair on_instantiate dont_inherit_mode) }
 {
     for id in traits {
         if *id == Id::pair(ON_INSTANTIATE, INHERIT)
@@ -189,7 +194,8 @@ fn is_added(entity: u32, added: &[FactKey], id: Id) -> bool
         .any(|fact| fact.entity() == entity && fact.id() == id)
 }
 
-/// Whether an id may come to an entity that holds these ids and gets these facts, where its component or relationship has these traits.
+/// Whether an id may come to an entity that holds these ids and gets these facts, where its component or relationship
+/// has these traits.
 fn takes(held: &[Id], entity: u32, added: &[FactKey], traits: &[Id], id: Id) -> bool
     ensures { result ≡ takes_own traits.now held.now entity added.now id }
 {

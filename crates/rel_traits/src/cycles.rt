@@ -11,8 +11,8 @@ use std::alloc::Allocator;
 
 /// Whether one of the facts that come with a fact of the entity closes a cycle of a relationship that must have none.
 ///
-/// It goes through the ids of the ancestors of a pair's target, for each pair of an acyclic relationship; of an entity to which nothing is related so
-/// yet, as of one that is new, none needs to be looked at.
+/// It goes through the ids of the ancestors of a pair's target, for each pair of an acyclic relationship; of an entity
+/// to which nothing is related so yet, as of one that is new, none needs to be looked at.
 pub fn adds_cycle<G: Holders, A: Allocator>(
     graph: &G,
     entity: u32,

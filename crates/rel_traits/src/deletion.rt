@@ -43,11 +43,12 @@ impl<A: Allocator + Copy> Deletion<A> {
 impl<A: Allocator> Deletion<A> {
     /// Lists what the deletion takes that `judge_delete` found, in place of what was listed before.
     ///
-    /// It takes time in the ids of the deleted entities and of those that refer to them, besides the time to sort the lists. Memory can be
-    /// refused only where a list has no room.
+    /// It takes time in the ids of the deleted entities and of those that refer to them, besides the time to sort the
+    /// lists. Memory can be refused only where a list has no room.
     pub fn gather<G: Graph>(&mut self, graph: &G, scratch: &Scratch<A>) -> Result<(), AllocError>
         requires { G.size graph.now ≤ scratch.now.size }
-        ensures dead { OnOk result (OfDeletion (G.entities graph.now) (G.ids graph.now) scratch.now (λ w e. self.new.dead.items ≡ keys (deleted w e))) }
+        ensures dead { OnOk result (OfDeletion (G.entities graph.now) (G.ids graph.now) scratch.now
+            (λ w e. self.new.dead.items ≡ keys (deleted w e))) }
         ensures lost { OnOk result (OfDeletion (G.entities graph.now) (G.ids graph.now) scratch.now
             (λ w e. self.new.lost.items ≡ filter (is_lost w e) (keys w.facts))) }
         ensures went { OnOk result (OfDeletion (G.entities graph.now) (G.ids graph.now) scratch.now
@@ -94,7 +95,8 @@ fn list_lost<G: Graph, A: Allocator>(
     facts: &mut Vec<FactKey, A>,
 ) -> Result<(), AllocError>
     requires { G.size graph.now ≤ scratch.now.size }
-    ensures { OnOk result (facts.new.items ≡ flat_map (λ y. map (λ i. (y, i)) (filter (mentions_any scratch.now.found) (G.ids graph.now y)))
+    ensures { OnOk result (facts.new.items ≡ flat_map (λ y. map (λ i. (y, i))
+        (filter (mentions_any scratch.now.found) (G.ids graph.now y)))
         scratch.now.referrers) }
 {
     facts.clear();
@@ -112,7 +114,8 @@ fn push_lost<G: Graph, A: Allocator>(
     facts: &mut Vec<FactKey, A>,
 ) -> Result<(), AllocError>
     requires { G.size graph.now ≤ scratch.now.size }
-    ensures { OnOk result (facts.new.items ≡ facts.old.items ++ map (λ i. (entity, i)) (filter (mentions_any scratch.now.found) (G.ids graph.now entity))) }
+    ensures { OnOk result (facts.new.items ≡ facts.old.items ++ map (λ i. (entity, i))
+        (filter (mentions_any scratch.now.found) (G.ids graph.now entity))) }
 {
     let _ = graph.size();
     for id in graph.ids(entity) {
@@ -143,7 +146,8 @@ fn list_dead<G: Graph, A: Allocator>(
     scratch: &Scratch<A>,
     facts: &mut Vec<FactKey, A>,
 ) -> Result<(), AllocError>
-    ensures { OnOk result (facts.new.items ≡ facts.old.items ++ flat_map (λ y. map (λ i. (y, i)) (G.ids graph.now y)) scratch.now.found) }
+    ensures { OnOk result (facts.new.items ≡ facts.old.items ++ flat_map
+        (λ y. map (λ i. (y, i)) (G.ids graph.now y)) scratch.now.found) }
 {
     for entity in scratch.found() {
         push_facts(graph, *entity, facts)?;

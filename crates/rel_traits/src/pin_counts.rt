@@ -7,8 +7,8 @@ ghost use Rattle.ecs_model.specs.steps.Pins.{with_count};
 use std::alloc::{AllocError, Allocator, Global};
 use std::marker::Model;
 
-/// How many stored queries mention each entity, by its index. It has room for 8 bytes for each index up to the greatest that was covered, and fills
-/// it up to the greatest whose count was kept.
+/// How many stored queries mention each entity, by its index. It has room for 8 bytes for each index up to the greatest
+/// that was covered, and fills it up to the greatest whose count was kept.
 #[derive(Drop)]
 pub struct PinCounts<A: Allocator = Global> {
     // by index; each that would stand behind them is 0

@@ -1,5 +1,6 @@
 //! Why an added fact is refused.
-ghost use Rattle.std.specs.Prelude.{◌≡◌, ◌↔◌, ◌⊎◌, ◌==◌, ◌<◌, ◌≤◌, ◌+◌, ◌-◌, ◌&&◌, ◌||◌, false, [], ◌∷◌, All, Contains, IfSome, IsTrue, count_by, length};
+ghost use Rattle.std.specs.Prelude.{◌≡◌, ◌↔◌, ◌⊎◌, ◌==◌, ◌<◌, ◌≤◌, ◌+◌, ◌-◌, ◌&&◌, ◌||◌, false, [], ◌∷◌, All, Contains};
+ghost use Rattle.std.specs.Prelude.{IfSome, IsTrue, count_by, length};
 ghost use Rattle.std.specs.Prelude.{nat_lt};
 ghost use Rattle.std.specs.List.{cons_option, list_any};
 ghost use Rattle.ecs_id.specs.Id.{mentioned, second_of};
@@ -23,8 +24,8 @@ use ecs_model::{FactKey, MOST_IDS};
 use rel_travel::{Graph, Holders, Scratch};
 use std::alloc::Allocator;
 
-/// Why a fact can't be added: a trait would come to what is used or to what a stored query mentions, an acyclic relationship would get a
-/// cycle, an entity would hold too many ids, or no further command is counted.
+/// Why a fact can't be added: a trait would come to what is used or to what a stored query mentions, an acyclic
+/// relationship would get a cycle, an entity would hold too many ids, or no further command is counted.
 ///
 /// That nothing comes to what is built in is for the caller to see before, by `adds_built_in`.
 pub fn judge_add<G: Holders, A: Allocator>(
@@ -41,8 +42,10 @@ pub fn judge_add<G: Holders, A: Allocator>(
     requires live { All (IsOfLive (G.entities graph.now)) additions.now.added.items }
     requires copies_live { All (IsOfLive (G.entities graph.now)) additions.now.copies.items }
     ensures size { scratch.new.size ≡ scratch.old.size }
-    ensures judged { (w : WorldState) → Sees w (G.entities graph.now) (G.ids graph.now) → HasCounts w pins.now.entries is_spent
-        → TellsAddition w fact additions.now.base additions.now.added.items additions.now.copies.items additions.now.came.items additions.now.went.items
+    ensures judged { (w : WorldState) → Sees w (G.entities graph.now) (G.ids graph.now)
+        → HasCounts w pins.now.entries is_spent
+        → TellsAddition w fact additions.now.base additions.now.added.items additions.now.copies.items
+        additions.now.came.items additions.now.went.items
         → brings_built_in w fact.0 fact.1 ≡ false → result ≡ first_reason (add_reasons w fact.0 fact.1) }
 {
     let _ = graph.size();
@@ -69,14 +72,16 @@ fn close_cycle<G: Holders, A: Allocator>(
     requires added { All (λ k. IfSome (second_of k.1) (λ t. t < scratch.old.size)) added.now }
     requires copies { All (λ k. IfSome (second_of k.1) (λ t. t < scratch.old.size)) copies.now }
     ensures size { scratch.new.size ≡ scratch.old.size }
-    ensures closes { IsTrue result ↔ (ClosesOne (G.ids graph.now) entity added.now ⊎ ClosesOne (G.ids graph.now) entity copies.now) }
+    ensures closes { IsTrue result ↔ (ClosesOne (G.ids graph.now) entity added.now
+        ⊎ ClosesOne (G.ids graph.now) entity copies.now) }
 {
     adds_cycle(graph, entity, added, scratch) || adds_cycle(graph, entity, copies, scratch)
 }
 
 /// The first of these reasons.
 fn first_refusal(changes: bool, closes: bool, crowds: bool, is_spent: bool) -> Option<Refusal>
-    ensures { result ≡ first_reason ((changes, Refusal.TraitFixed) ∷ (closes, Refusal.Cycle) ∷ (crowds, Refusal.TooManyIds) ∷ (is_spent, Refusal.Full) ∷ []) }
+    ensures { result ≡ first_reason ((changes, Refusal.TraitFixed) ∷ (closes, Refusal.Cycle)
+        ∷ (crowds, Refusal.TooManyIds) ∷ (is_spent, Refusal.Full) ∷ []) }
 {
     if changes {
         Some(Refusal::TraitFixed)
@@ -91,9 +96,11 @@ fn first_refusal(changes: bool, closes: bool, crowds: bool, is_spent: bool) -> O
     }
 }
 
-/// Whether one of the facts is a trait and comes to what is used as component or relationship, or to what a stored query mentions.
+/// Whether one of the facts is a trait and comes to what is used as component or relationship, or to what a stored
+/// query mentions.
 fn changes_trait<G: Holders, A: Allocator>(graph: &G, came: &[FactKey], pins: &PinCounts<A>) -> bool
-    ensures { result ≡ list_any (λ k. is_trait_id k.1 && (is_used (G.ids graph.now) (G.entities graph.now) k.0 || nat_lt 0 (count_at pins.now.entries k.0)))
+    ensures { result ≡ list_any (λ k. is_trait_id k.1 && (is_used (G.ids graph.now) (G.entities graph.now) k.0
+        || nat_lt 0 (count_at pins.now.entries k.0)))
         came.now }
 {
     came.iter().any(|fact| {
@@ -101,9 +108,11 @@ fn changes_trait<G: Holders, A: Allocator>(graph: &G, came: &[FactKey], pins: &P
     })
 }
 
-/// Whether the entity of the fact, or its target if it has one, would hold too many ids. No other entity gets one of the added facts.
+/// Whether the entity of the fact, or its target if it has one, would hold too many ids. No other entity gets one of
+/// the added facts.
 fn crowds_one<G: Graph>(graph: &G, fact: FactKey, came: &[FactKey], went: &[FactKey]) -> bool
-    ensures { result ≡ list_any (λ x. nat_lt most_ids (length (G.ids graph.now x) + count_by (λ k. k.0 == x) came.now - count_by (λ k. k.0 == x) went.now))
+    ensures { result ≡ list_any (λ x. nat_lt most_ids (length (G.ids graph.now x) + count_by
+        (λ k. k.0 == x) came.now - count_by (λ k. k.0 == x) went.now))
         (fact.0 ∷ cons_option (second_of fact.1) []) }
 {
     let target = fact.id().second();
@@ -113,7 +122,8 @@ fn crowds_one<G: Graph>(graph: &G, fact: FactKey, came: &[FactKey], went: &[Fact
 
 /// Whether an entity would hold too many ids, after these facts have come and these have gone.
 fn is_crowded<G: Graph>(graph: &G, entity: u32, came: &[FactKey], went: &[FactKey]) -> bool
-    ensures { result ≡ nat_lt most_ids (length (G.ids graph.now entity) + count_by (λ k. k.0 == entity) came.now - count_by (λ k. k.0 == entity) went.now) }
+    ensures { result ≡ nat_lt most_ids (length (G.ids graph.now entity) + count_by
+        (λ k. k.0 == entity) came.now - count_by (λ k. k.0 == entity) went.now) }
 {
     let held = graph.ids(entity).len() + count_of(came, entity);
     held.saturating_sub(count_of(went, entity)) > MOST_IDS

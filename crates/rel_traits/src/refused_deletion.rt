@@ -15,10 +15,11 @@ use ecs_model::faults::Refusal;
 use rel_travel::{Graph, Holders, Scratch, deleted, deletion_is_forbidden, find_referrers};
 use std::alloc::Allocator;
 
-/// Finds all who fall with an entity and all who refer to these, and answers why they can't be deleted: a stored query mentions one, a
-/// cleanup rule forbids it, or no further command is counted.
+/// Finds all who fall with an entity and all who refer to these, and answers why they can't be deleted: a stored query
+/// mentions one, a cleanup rule forbids it, or no further command is counted.
 ///
-/// It goes through what mentions each of those who fall. That the entity isn't built in is for the caller to see before.
+/// It goes through what mentions each of those who fall. That the entity isn't built in is for the caller to see
+/// before.
 pub fn judge_delete<G: Holders, A: Allocator>(
     graph: &G,
     index: u32,
@@ -47,9 +48,14 @@ fn reason_against<G: Graph, A: Allocator>(
     scratch: &Scratch<A>,
 ) -> Option<Refusal>
     requires covered { G.size graph.now ≤ scratch.now.size }
-    requires referrers { (y : ℕ) → Contains scratch.now.referrers y ↔ Contains (referrers (G.ids graph.now) (G.entities graph.now) scratch.now.found) y }
-    ensures { result ≡ first_reason ((list_any (λ i. nat_lt 0 (count_at pins.now.entries i)) scratch.now.found, Refusal.InUse)
-        ∷ (is_forbidden (G.ids graph.now) (G.entities graph.now) scratch.now.found, Refusal.Panic) ∷ (is_spent, Refusal.Full) ∷ []) }
+    requires referrers { (y : ℕ) → Contains scratch.now.referrers y
+        ↔ Contains (referrers (G.ids graph.now) (G.entities graph.now) scratch.now.found) y }
+    ensures { result ≡ first_reason ((
+      list_any (λ i. nat_lt 0 (count_at pins.now.entries i)) scratch.now.found,
+      Refusal.InUse,
+    )
+        ∷ (is_forbidden (G.ids graph.now) (G.entities graph.now) scratch.now.found, Refusal.Panic)
+        ∷ (is_spent, Refusal.Full) ∷ []) }
 {
     if any_pinned(pins, scratch.found()) {
         return Some(Refusal::InUse);

@@ -17,9 +17,11 @@ use ecs_model::faults::Refusal;
 use rel_travel::Graph;
 use std::alloc::{AllocError, Allocator};
 
-/// Makes the list that of the facts which go with a removed one, ascending: the fact and its mirror, where they are held.
+/// Makes the list that of the facts which go with a removed one, ascending: the fact and its mirror, where they are
+/// held.
 ///
-/// It takes time in the ids of the fact's entity and of its target. Memory can be refused only where the list has no room.
+/// It takes time in the ids of the fact's entity and of its target. Memory can be refused only where the list has no
+/// room.
 pub fn gather_remove<G: Graph, A: Allocator>(
     graph: &G,
     fact: FactKey,
@@ -33,10 +35,11 @@ pub fn gather_remove<G: Graph, A: Allocator>(
     Ok(())
 }
 
-/// Why a fact of live entities can't be removed: it is of a built-in entity or is the tag of components, it is a trait, or no further
-/// command is counted.
+/// Why a fact of live entities can't be removed: it is of a built-in entity or is the tag of components, it is a trait,
+/// or no further command is counted.
 pub fn judge_remove(fact: FactKey, is_spent: bool) -> Option<Refusal>
-    ensures { result ≡ first_reason ((is_of_built_in fact, Refusal.BuiltIn) ∷ (is_trait_id fact.1, Refusal.TraitFixed) ∷ (is_spent, Refusal.Full) ∷ []) }
+    ensures { result ≡ first_reason ((is_of_built_in fact, Refusal.BuiltIn) ∷ (is_trait_id fact.1, Refusal.TraitFixed)
+        ∷ (is_spent, Refusal.Full) ∷ []) }
 {
     if is_fixed(fact) {
         Some(Refusal::BuiltIn)

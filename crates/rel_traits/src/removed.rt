@@ -21,7 +21,8 @@ pub fn closure_remove<G: Graph, A: Allocator>(
     removed: &mut Vec<FactKey, A>,
 ) -> Result<(), AllocError>
     requires { IsIndex fact.0 }
-    ensures { OnOk result (IsListOf (λ z. Contains (fact ∷ mirror (G.ids graph.now) fact) z × IsTrue (is_fact (G.ids graph.now) z)) removed.new.items) }
+    ensures { OnOk result (IsListOf (λ z. Contains (fact ∷ mirror (G.ids graph.now) fact) z
+        × IsTrue (is_fact (G.ids graph.now) z)) removed.new.items) }
 {
     removed.clear();
     removed.push(fact)?;

@@ -11,8 +11,8 @@ use ecs_model::built_ins::{EXCLUSIVE, SYMMETRIC};
 use rel_travel::{Graph, target_under};
 use std::alloc::{AllocError, Allocator};
 
-/// Finds the replaced facts, in order: those that are held and give way to the added ones, by their relationships that are exclusive, and
-/// their mirrors.
+/// Finds the replaced facts, in order: those that are held and give way to the added ones, by their relationships that
+/// are exclusive, and their mirrors.
 ///
 /// It takes time in the ids of the entities of the added facts and of their mirrors.
 pub fn replaced_by<G: Graph, A: Allocator>(
@@ -21,7 +21,8 @@ pub fn replaced_by<G: Graph, A: Allocator>(
     replaced: &mut Vec<FactKey, A>,
 ) -> Result<(), AllocError>
     requires { All (λ k. IsIndex k.0) added.now }
-    ensures { OnOk result (IsListOf (λ z. GivesWay (G.ids graph.now) added.now z × IsTrue (is_fact (G.ids graph.now) z)) replaced.new.items) }
+    ensures { OnOk result (IsListOf (λ z. GivesWay (G.ids graph.now) added.now z × IsTrue (is_fact (G.ids graph.now) z))
+        replaced.new.items) }
 {
     list_displaced(graph, added, replaced)?;
     keep_held(graph, replaced);
@@ -85,7 +86,8 @@ fn push_others<A: Allocator>(
 ) -> Result<(), AllocError>
     requires entity { IsIndex entity }
     requires relationship { IsIndex relationship }
-    ensures { OnOk result (facts.new.items ≡ facts.old.items ++ others_of is_symmetric entity relationship target ids.now) }
+    ensures { OnOk result (facts.new.items ≡ facts.old.items ++ others_of is_symmetric entity relationship target
+        ids.now) }
 {
     for id in ids {
         push_other(is_symmetric, entity, relationship, target, *id, facts)?;
@@ -104,7 +106,8 @@ fn push_other<A: Allocator>(
 ) -> Result<(), AllocError>
     requires entity { IsIndex entity }
     requires relationship { IsIndex relationship }
-    ensures { OnOk result (facts.new.items ≡ facts.old.items ++ others_of is_symmetric entity relationship target (id ∷ [])) }
+    ensures { OnOk result (facts.new.items ≡ facts.old.items ++ others_of is_symmetric entity relationship target
+        (id ∷ [])) }
 {
     if let Some(other) = target_under(id, relationship) {
         if other != target {

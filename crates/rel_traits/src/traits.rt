@@ -40,9 +40,12 @@ impl Flags for TraitSet {
 
     ghost exact = { ⊤ };
 
-    ghost table = { (codes "EXCLUSIVE", 1) ∷ (codes "SYMMETRIC", 2) ∷ (codes "TRANSITIVE", 4) ∷ (codes "REFLEXIVE", 8) ∷ (codes "ACYCLIC", 16)
-        ∷ (codes "TRAVERSABLE", 32) ∷ (codes "PAIR_IS_TAG", 64) ∷ (codes "ON_DELETE_DELETE", 128) ∷ (codes "ON_DELETE_PANIC", 256)
-        ∷ (codes "ON_DELETE_TARGET_DELETE", 512) ∷ (codes "ON_DELETE_TARGET_PANIC", 1024) ∷ (codes "ON_INSTANTIATE_INHERIT", 2048)
+    ghost table = { (codes "EXCLUSIVE", 1) ∷ (codes "SYMMETRIC", 2) ∷ (codes "TRANSITIVE", 4) ∷ (codes "REFLEXIVE", 8)
+        ∷ (codes "ACYCLIC", 16)
+        ∷ (codes "TRAVERSABLE", 32) ∷ (codes "PAIR_IS_TAG", 64) ∷ (codes "ON_DELETE_DELETE", 128)
+        ∷ (codes "ON_DELETE_PANIC", 256)
+        ∷ (codes "ON_DELETE_TARGET_DELETE", 512) ∷ (codes "ON_DELETE_TARGET_PANIC", 1024)
+        ∷ (codes "ON_INSTANTIATE_INHERIT", 2048)
         ∷ (codes "ON_INSTANTIATE_DONT_INHERIT", 4096) ∷ [] };
 
     ghost set_of = { λ s. s.0 };
@@ -62,15 +65,18 @@ impl Flags for TraitSet {
 
 /// The traits of an entity: each bit is set exactly if its fact is held, and no other bit is.
 pub fn traits_of<G: Graph>(graph: &G, index: u32) -> TraitSet
-    ensures held { (b : ℕ) → b < 13 → (bit_and result.0 (2 ^ b) == 2 ^ b) ≡ is_held (G.ids graph.now index) (slice_index_or trait_ids b (plain_id 0)) }
+    ensures held { (b : ℕ) → b < 13 → (bit_and result.0 (2 ^ b) == 2 ^ b)
+        ≡ is_held (G.ids graph.now index) (slice_index_or trait_ids b (plain_id 0)) }
     ensures no_more { (b : ℕ) → 13 ≤ b → (bit_and result.0 (2 ^ b) == 2 ^ b) ≡ false }
 {
     traits_among(graph.ids(index))
 }
 
-/// The traits of one that holds these ids: each bit is set exactly if its fact is among them, and no other bit is. It takes one pass over the ids.
+/// The traits of one that holds these ids: each bit is set exactly if its fact is among them, and no other bit is. It
+/// takes one pass over the ids.
 pub fn traits_among(ids: &[Id]) -> TraitSet
-    ensures held { (b : ℕ) → b < 13 → (bit_and result.0 (2 ^ b) == 2 ^ b) ≡ is_held ids.now (slice_index_or trait_ids b (plain_id 0)) }
+    ensures held { (b : ℕ) → b < 13 → (bit_and result.0 (2 ^ b) == 2 ^ b)
+        ≡ is_held ids.now (slice_index_or trait_ids b (plain_id 0)) }
     ensures no_more { (b : ℕ) → 13 ≤ b → (bit_and result.0 (2 ^ b) == 2 ^ b) ≡ false }
 {
     let mut traits = TraitSet::empty();

@@ -1,5 +1,6 @@
 //! How deep an entity stands along a relationship, and what is noted of others on the way.
-ghost use Rattle.std.specs.Prelude.{◌≡◌, ◌≤◌, ◌<◌, ℕ, All, Contains, IfNone, IfSome, get_or, length, map, take, vec_capacity};
+ghost use Rattle.std.specs.Prelude.{◌≡◌, ◌≤◌, ◌<◌, ℕ, All, Contains, IfNone, IfSome, get_or, length, map, take};
+ghost use Rattle.std.specs.Prelude.{vec_capacity};
 ghost use Rattle.ecs_model.specs.Depth.{greatest};
 ghost use Rattle.ecs_model.specs.Links.{IsAcyclic, depth, targets_in};
 ghost use Rattle.rel_travel.specs.Words.{AreNoted, AreNumbers, IsNotedOf, NoneNoted};
@@ -54,9 +55,11 @@ fn greatest_word(ids: &[Id], relationship: u32, known: &[u32]) -> u32
     most
 }
 
-/// The depth of an entity, where a word for each may tell one more than its depth. What it finds it notes there, and it lists of whom.
+/// The depth of an entity, where a word for each may tell one more than its depth. What it finds it notes there, and it
+/// lists of whom.
 ///
-/// It goes through the ids of each entity of which nothing is known twice: once for a target of which nothing is known, and once for the greatest word.
+/// It goes through the ids of each entity of which nothing is known twice: once for a target of which nothing is known,
+/// and once for the greatest word.
 pub fn noted_depth<G: Graph, A: Allocator>(
     graph: &G,
     index: u32,

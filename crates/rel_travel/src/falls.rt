@@ -18,7 +18,8 @@ pub fn find_falling<G: Holders, A: Allocator>(graph: &G, index: u32, found: &mut
     requires covered { G.size graph.now ≤ found.old.size }
     requires inside { index < found.old.size }
     ensures size { found.new.size ≡ found.old.size }
-    ensures least { (y : ℕ) → Contains found.new.items y ↔ Reached (falling (G.ids graph.now) (G.entities graph.now)) index y }
+    ensures least { (y : ℕ) → Contains found.new.items y ↔ Reached
+        (falling (G.ids graph.now) (G.entities graph.now)) index y }
 {
     let _ = graph.size();
     found.clear();
@@ -54,11 +55,13 @@ impl<G: Holders> Rule for Falling<'_, G> {
     }
 }
 
-/// Adds the sources of pairs with this target whose relationship deletes them. Most entities are no target, which one look tells.
+/// Adds the sources of pairs with this target whose relationship deletes them. Most entities are no target, which one
+/// look tells.
 fn add_sources<G: Holders, A: Allocator>(graph: &G, target: u32, found: &mut Found<A>)
     requires { All (λ y. y < found.old.size) (sources_falling (G.entities graph.now) (G.ids graph.now) target) }
     ensures size { found.new.size ≡ found.old.size }
-    ensures grown { IsGrownBy (sources_falling (G.entities graph.now) (G.ids graph.now) target) found.old.items found.new.items }
+    ensures grown { IsGrownBy (sources_falling (G.entities graph.now) (G.ids graph.now) target) found.old.items
+        found.new.items }
 {
     let any = Pattern {
         first: Part::Any,
@@ -83,9 +86,11 @@ fn add_pairs<G: Holders, A: Allocator>(
     target: u32,
     found: &mut Found<A>,
 )
-    requires { All (λ y. y < found.old.size) (flat_map (λ e. holders_of_pair (G.entities graph.now) (G.ids graph.now) target e.index) relationships.now) }
+    requires { All (λ y. y < found.old.size) (flat_map (λ e. holders_of_pair (G.entities graph.now)
+        (G.ids graph.now) target e.index) relationships.now) }
     ensures size { found.new.size ≡ found.old.size }
-    ensures grown { IsGrownBy (flat_map (λ e. holders_of_pair (G.entities graph.now) (G.ids graph.now) target e.index) relationships.now) found.old.items
+    ensures grown { IsGrownBy (flat_map (λ e. holders_of_pair (G.entities graph.now) (G.ids graph.now) target e.index)
+        relationships.now) found.old.items
         found.new.items }
 {
     for relationship in relationships {

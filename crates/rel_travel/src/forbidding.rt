@@ -18,7 +18,8 @@ pub fn has_forbidder<G: Graph, A: Allocator>(
     referring: &[u32],
 ) -> bool
     requires members { G.size graph.now ≤ members.now.size }
-    requires referring { (y : ℕ) → Contains referring.now y ↔ Contains (referrers (G.ids graph.now) (G.entities graph.now) members.now.items) y }
+    requires referring { (y : ℕ) → Contains referring.now y ↔ Contains
+        (referrers (G.ids graph.now) (G.entities graph.now) members.now.items) y }
     ensures { result ≡ is_forbidden (G.ids graph.now) (G.entities graph.now) members.now.items }
 {
     for entity in referring {

@@ -1,5 +1,6 @@
 //! What a search has found.
-ghost use Rattle.std.specs.Prelude.{◌≡◌, ◌==◌, ◌-◌, ◌≤◌, ◌<◌, ◌/◌, ◌%◌, ◌^◌, ◌++◌, [], length, max, replicate, slice_index, vec_capacity, vec_len, OnOk, OnErr};
+ghost use Rattle.std.specs.Prelude.{◌≡◌, ◌==◌, ◌-◌, ◌≤◌, ◌<◌, ◌/◌, ◌%◌, ◌^◌, ◌++◌, [], length, max, replicate};
+ghost use Rattle.std.specs.Prelude.{slice_index, vec_capacity, vec_len, OnOk, OnErr};
 ghost use Rattle.std.specs.List.{IsDistinct};
 ghost use Rattle.rel_travel.specs.Finds.{is_among, is_marked, none_found, with_find};
 
@@ -16,8 +17,8 @@ static BLANK: [u64; BLOCK] = [0; BLOCK];
 
 /// The entities that a search has found, by index: each once, in the order in which they were found.
 ///
-/// Room for all indexes below a number is made by `reserve`; the other calls take no memory. `add` and `is_found` take constant time, and
-/// `clear` takes time in what was found.
+/// Room for all indexes below a number is made by `reserve`; the other calls take no memory. `add` and `is_found` take
+/// constant time, and `clear` takes time in what was found.
 #[derive(Drop)]
 pub struct Found<A: Allocator = Global> {
     /// Every index below it has a mark.
@@ -95,7 +96,8 @@ impl<A: Allocator + Copy> Found<A> {
         }
     }
 
-    /// Makes room for all indexes below a number, where there is less. Where memory is refused, the room that was there stays.
+    /// Makes room for all indexes below a number, where there is less. Where memory is refused, the room that was there
+    /// stays.
     pub fn reserve(&mut self, size: u32) -> Result<(), AllocError>
         ensures items { self.new.items ≡ self.old.items }
         ensures ok { OnOk result (self.new.size ≡ max self.old.size size) }

@@ -42,8 +42,10 @@ impl<G: Graph> Rule for Upward<'_, G> {
     fn follow<A: Allocator>(&self, index: u32, found: &mut Found<A>)
         requires { All (λ y. y < found.old.size) (upward (G.ids self.now.graph.now) self.now.relationship index) }
         ensures size { found.new.size ≡ found.old.size }
-        ensures grown { IsGrownBy (upward (G.ids self.now.graph.now) self.now.relationship index) found.old.items found.new.items }
-        ensures items { found.new.items ≡ with_finds found.old.items (upward (G.ids self.now.graph.now) self.now.relationship index) }
+        ensures grown { IsGrownBy (upward (G.ids self.now.graph.now) self.now.relationship index) found.old.items
+            found.new.items }
+        ensures items { found.new.items ≡ with_finds found.old.items
+            (upward (G.ids self.now.graph.now) self.now.relationship index) }
     {
         add_targets(self.graph.ids(index), self.relationship, found);
     }

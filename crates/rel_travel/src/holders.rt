@@ -24,7 +24,8 @@ pub trait Holders: Graph {
     /// The tables whose entities hold an id that the pattern matches, in the order in which they are given.
     ghost listed: { Self → Asked → List Key };
 
-    /// Law: the tables that are listed for a pattern have exactly the live entities with an id that it matches. The call does nothing.
+    /// Law: the tables that are listed for a pattern have exactly the live entities with an id that it matches. The
+    /// call does nothing.
     fn lists_holders(&self)
         ensures { (pattern : Asked) (y : ℕ) → Contains (flat_map (rows self.now) (listed self.now pattern)) y
             ↔ Contains (holders (Self.entities self.now) (Self.ids self.now) pattern) y };
@@ -50,9 +51,11 @@ impl<G: Holders> Rule for Downward<'_, G> {
     ghost next = { λ d x. holders_of_pair (G.entities d.graph.now) (G.ids d.graph.now) x d.relationship };
 
     fn follow<A: Allocator>(&self, index: u32, found: &mut Found<A>)
-        requires { All (λ y. y < found.old.size) (holders_of_pair (G.entities self.now.graph.now) (G.ids self.now.graph.now) index self.now.relationship) }
+        requires { All (λ y. y < found.old.size) (holders_of_pair (G.entities self.now.graph.now)
+            (G.ids self.now.graph.now) index self.now.relationship) }
         ensures size { found.new.size ≡ found.old.size }
-        ensures grown { IsGrownBy (holders_of_pair (G.entities self.now.graph.now) (G.ids self.now.graph.now) index self.now.relationship) found.old.items
+        ensures grown { IsGrownBy (holders_of_pair (G.entities self.now.graph.now)
+            (G.ids self.now.graph.now) index self.now.relationship) found.old.items
             found.new.items }
         ensures items { found.new.items ≡ with_finds found.old.items
             (downward (G.rows self.now.graph.now) (G.listed self.now.graph.now) self.now.relationship index) }
@@ -63,7 +66,8 @@ impl<G: Holders> Rule for Downward<'_, G> {
     }
 }
 
-/// Whether a table is listed for the pairs of a relationship with this target. Where none is, the relationship leads to it in no step from anywhere.
+/// Whether a table is listed for the pairs of a relationship with this target. Where none is, the relationship leads to
+/// it in no step from anywhere.
 ///
 /// It looks one list up: who stands in its tables is not asked.
 pub fn may_be_target<G: Holders>(graph: &G, relationship: u32, index: u32) -> bool
@@ -79,8 +83,10 @@ pub fn may_be_target<G: Holders>(graph: &G, relationship: u32, index: u32) -> bo
 pub fn add_holders<G: Holders, A: Allocator>(graph: &G, pattern: Pattern, found: &mut Found<A>)
     requires { All (λ y. y < found.old.size) (holders (G.entities graph.now) (G.ids graph.now) pattern) }
     ensures size { found.new.size ≡ found.old.size }
-    ensures grown { IsGrownBy (holders (G.entities graph.now) (G.ids graph.now) pattern) found.old.items found.new.items }
-    ensures items { found.new.items ≡ with_finds found.old.items (flat_map (G.rows graph.now) (G.listed graph.now pattern)) }
+    ensures grown { IsGrownBy (holders (G.entities graph.now) (G.ids graph.now) pattern) found.old.items
+        found.new.items }
+    ensures items { found.new.items ≡ with_finds found.old.items
+        (flat_map (G.rows graph.now) (G.listed graph.now pattern)) }
 {
     for table in graph.tables_of(pattern) {
         add_rows(graph.rows(*table), found);

@@ -71,7 +71,8 @@ impl<A: Allocator> Path<A> {
 
     /// Takes the last step back.
     pub fn pop(&mut self) -> Option<Step>
-        ensures steps { MatchOption result ((self.old.steps ≡ []) × (self.new.steps ≡ [])) (λ step. self.old.steps ≡ step ∷ self.new.steps) }
+        ensures steps { MatchOption result ((self.old.steps ≡ []) × (self.new.steps ≡ []))
+            (λ step. self.old.steps ≡ step ∷ self.new.steps) }
         ensures room { self.new.room ≡ self.old.room }
     {
         self.steps.pop()

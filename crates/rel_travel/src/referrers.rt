@@ -15,7 +15,8 @@ pub fn list_referrers<G: Holders, A: Allocator>(graph: &G, members: &Found<A>, f
     requires covered { G.size graph.now ≤ found.old.size }
     requires members { G.size graph.now ≤ members.now.size }
     ensures size { found.new.size ≡ found.old.size }
-    ensures exact { (y : ℕ) → Contains found.new.items y ↔ Contains (referrers (G.ids graph.now) (G.entities graph.now) members.now.items) y }
+    ensures exact { (y : ℕ) → Contains found.new.items y ↔ Contains
+        (referrers (G.ids graph.now) (G.entities graph.now) members.now.items) y }
 {
     let _ = graph.size();
     found.clear();
@@ -34,7 +35,8 @@ fn add_referrers<G: Holders, A: Allocator>(
     requires covered { G.size graph.now ≤ found.old.size }
     requires members { G.size graph.now ≤ members.now.size }
     ensures size { found.new.size ≡ found.old.size }
-    ensures grown { IsGrownBy (outside_referrers (G.entities graph.now) (G.ids graph.now) members.now.items member) found.old.items found.new.items }
+    ensures grown { IsGrownBy (outside_referrers (G.entities graph.now) (G.ids graph.now) members.now.items member)
+        found.old.items found.new.items }
 {
     let itself = Part::Is(member);
     let any = Some(Part::Any);
@@ -71,7 +73,8 @@ fn add_outside<G: Holders, A: Allocator>(
     requires covered { G.size graph.now ≤ found.old.size }
     requires members { G.size graph.now ≤ members.now.size }
     ensures size { found.new.size ≡ found.old.size }
-    ensures grown { IsGrownBy (outside_holders (G.entities graph.now) (G.ids graph.now) members.now.items pattern) found.old.items found.new.items }
+    ensures grown { IsGrownBy (outside_holders (G.entities graph.now) (G.ids graph.now) members.now.items pattern)
+        found.old.items found.new.items }
 {
     let _ = graph.size();
     for table in graph.tables_of(pattern) {
@@ -84,7 +87,8 @@ fn add_rows_outside<A: Allocator>(rows: &[EntityId], members: &Found<A>, found: 
     requires covered { All (λ e. e.index < found.old.size) rows.now }
     requires members { All (λ e. e.index < members.now.size) rows.now }
     ensures size { found.new.size ≡ found.old.size }
-    ensures grown { IsGrownBy (filter (is_outside members.now.items) (map (λ e. e.index) rows.now)) found.old.items found.new.items }
+    ensures grown { IsGrownBy (filter (is_outside members.now.items) (map (λ e. e.index) rows.now)) found.old.items
+        found.new.items }
 {
     for entity in rows {
         if !members.is_found(entity.index) {

@@ -1,11 +1,13 @@
 //! The searches of a graph, in room that is made once.
-ghost use Rattle.std.specs.Prelude.{◌≡◌, ◌==◌, ◌↔◌, ◌+◌, ◌≤◌, ◌<◌, ℕ, List, [], ◌∷◌, length, max, find, All, Contains, IsTrue, MatchOption, OnOk, OnErr};
+ghost use Rattle.std.specs.Prelude.{◌≡◌, ◌==◌, ◌↔◌, ◌+◌, ◌≤◌, ◌<◌, ℕ, List, [], ◌∷◌, length, max, find, All, Contains};
+ghost use Rattle.std.specs.Prelude.{IsTrue, MatchOption, OnOk, OnErr};
 ghost use Rattle.std.specs.List.{list_any, IsDistinct};
 ghost use Rattle.component_index.specs.Patterns.{matches};
 ghost use Rattle.component_index.specs.declared.pattern.Pattern.{Pattern as Asked};
 ghost use Rattle.ecs_id.specs.declared.TableKey.{TableKey};
 ghost use Rattle.ecs_model.specs.Cleanup.{falling};
-ghost use Rattle.ecs_model.specs.Links.{IsAcyclic, IsReached, ancestor_line, depth as depth_in, reaches as reaches_in, upward};
+ghost use Rattle.ecs_model.specs.Links.{IsAcyclic, IsReached, ancestor_line, depth as depth_in, reaches as reaches_in};
+ghost use Rattle.ecs_model.specs.Links.{upward};
 ghost use Rattle.ecs_model.specs.Reach.{IsLeast, Reached};
 ghost use Rattle.rel_travel.specs.Lists.{GivesOne, IsListing, IsToCome, given_by, steps};
 ghost use Rattle.rel_travel.specs.Growing.{IsGrownBy};
@@ -43,14 +45,15 @@ struct Listing {
 
 /// Room for the searches of a graph.
 ///
-/// Room is made by `reserve` alone: the searches take no memory and can't fail. Each forgets what the one before it found, in time
-/// in what that was; the size of the graph costs no search anything.
+/// Room is made by `reserve` alone: the searches take no memory and can't fail. Each forgets what the one before it
+/// found, in time in what that was; the size of the graph costs no search anything.
 #[derive(Drop)]
 pub struct Scratch<A: Allocator = Global> {
     found: Found<A>,
     referring: Found<A>,
     path: Path<A>,
-    /// For depths. It has room for as many as the scratch covers; none is made before a depth is asked for, and all are 0 between calls.
+    /// For depths. It has room for as many as the scratch covers; none is made before a depth is asked for, and all are
+    /// 0 between calls.
     words: Vec<u32, A>,
     list: Listing,
 }
@@ -72,7 +75,8 @@ impl<A: Allocator> Model for Scratch<A> {
       given = s.list.given;
     } };
 
-    ghost invariant = { λ s. (s.found.size ≤ s.path.room - 1) × (s.found.size ≤ s.referring.size) × (s.found.size ≤ vec_capacity s.words)
+    ghost invariant = { λ s. (s.found.size ≤ s.path.room - 1) × (s.found.size ≤ s.referring.size)
+        × (s.found.size ≤ vec_capacity s.words)
         × NoneNoted s.words.items };
 }
 
@@ -186,9 +190,11 @@ pub fn above<G: Graph, A: Allocator>(
     ensures size { scratch.new.size ≡ scratch.old.size }
     ensures begun { IsListing (G.entities graph.now) (G.ids graph.now) scratch.new }
     ensures none_given { given_by scratch.new ≡ [] }
-    ensures reached { (y : ℕ) → IsToCome (G.entities graph.now) (G.ids graph.now) scratch.new y ↔ IsReached (G.ids graph.now) relationship index y }
+    ensures reached { (y : ℕ) → IsToCome (G.entities graph.now) (G.ids graph.now) scratch.new y
+        ↔ IsReached (G.ids graph.now) relationship index y }
     ensures coming { (rows : TableKey → List ℕ) (listed : Asked → List TableKey)
-        → coming rows listed (G.ids graph.now) scratch.new ≡ above_list (G.size graph.now) (G.ids graph.now) relationship index }
+        → coming rows listed (G.ids graph.now) scratch.new ≡ above_list (G.size graph.now)
+        (G.ids graph.now) relationship index }
 {
     let _ = graph.size();
     let reach = reach_of(graph, relationship);
@@ -221,7 +227,8 @@ pub fn below<G: Holders, A: Allocator>(
     ensures size { scratch.new.size ≡ scratch.old.size }
     ensures begun { IsListing (G.entities graph.now) (G.ids graph.now) scratch.new }
     ensures none_given { given_by scratch.new ≡ [] }
-    ensures reached { (y : ℕ) → IsToCome (G.entities graph.now) (G.ids graph.now) scratch.new y ↔ IsReached (G.ids graph.now) relationship y index }
+    ensures reached { (y : ℕ) → IsToCome (G.entities graph.now) (G.ids graph.now) scratch.new y
+        ↔ IsReached (G.ids graph.now) relationship y index }
     ensures coming { coming (G.rows graph.now) (G.listed graph.now) (G.ids graph.now) scratch.new
         ≡ below_list (G.rows graph.now) (G.listed graph.now) (G.size graph.now) (G.ids graph.now) relationship index }
 {
@@ -251,10 +258,12 @@ pub fn below<G: Holders, A: Allocator>(
 pub fn pull<G: Holders, A: Allocator>(graph: &G, scratch: &mut Scratch<A>) -> Option<u32>
     requires covered { G.size graph.now ≤ scratch.old.size }
     ensures size { scratch.new.size ≡ scratch.old.size }
-    ensures next { MatchOption result (coming (G.rows graph.now) (G.listed graph.now) (G.ids graph.now) scratch.old ≡ [])
+    ensures next { MatchOption result (coming (G.rows graph.now) (G.listed graph.now)
+        (G.ids graph.now) scratch.old ≡ [])
         (λ e. coming (G.rows graph.now) (G.listed graph.now) (G.ids graph.now) scratch.old
         ≡ e ∷ coming (G.rows graph.now) (G.listed graph.now) (G.ids graph.now) scratch.new) }
-    ensures begun { IsListing (G.entities graph.now) (G.ids graph.now) scratch.old → IsListing (G.entities graph.now) (G.ids graph.now) scratch.new }
+    ensures begun { IsListing (G.entities graph.now) (G.ids graph.now) scratch.old
+        → IsListing (G.entities graph.now) (G.ids graph.now) scratch.new }
     ensures given { IsListing (G.entities graph.now) (G.ids graph.now) scratch.old
         → GivesOne (G.entities graph.now) (G.ids graph.now) scratch.old result scratch.new }
     ensures fits { length (given_by scratch.new) ≤ scratch.new.size }
@@ -276,7 +285,8 @@ pub fn pull<G: Holders, A: Allocator>(graph: &G, scratch: &mut Scratch<A>) -> Op
 fn follow<G: Holders, A: Allocator>(graph: &G, list: Listing, entity: u32, found: &mut Found<A>)
     requires covered { G.size graph.now ≤ found.old.size }
     ensures size { found.new.size ≡ found.old.size }
-    ensures grown { IsGrownBy (steps (G.entities graph.now) (G.ids graph.now) list.is_upward list.relationship entity) found.old.items found.new.items }
+    ensures grown { IsGrownBy (steps (G.entities graph.now) (G.ids graph.now) list.is_upward list.relationship entity)
+        found.old.items found.new.items }
     ensures items { found.new.items ≡ with_finds found.old.items
         (brought (G.rows graph.now) (G.listed graph.now) (G.ids graph.now) list.is_upward list.relationship entity) }
 {
@@ -316,8 +326,8 @@ pub fn reaches<G: Graph, A: Allocator>(
     leads(graph, relationship, source, target, &mut scratch.found)
 }
 
-/// Whether a pair of the relationship, from the source to the target, would close a chain: a chain of pairs leads from the target
-/// to the source, or they are one.
+/// Whether a pair of the relationship, from the source to the target, would close a chain: a chain of pairs leads from
+/// the target to the source, or they are one.
 ///
 /// It goes through the ids of the target and of its ancestors, each once.
 pub fn would_cycle<G: Graph, A: Allocator>(
@@ -336,7 +346,8 @@ pub fn would_cycle<G: Graph, A: Allocator>(
     leads_back(graph, relationship, source, target, &mut scratch.found)
 }
 
-/// The first entity in the line upward from an entity that holds an id which the pattern matches. The entity itself isn't in the line.
+/// The first entity in the line upward from an entity that holds an id which the pattern matches. The entity itself
+/// isn't in the line.
 ///
 /// It goes through the ids of each entity once, though it may stand in the line more often.
 pub fn first_up<G: Graph, A: Allocator>(
@@ -365,8 +376,8 @@ pub fn first_up<G: Graph, A: Allocator>(
 
 /// How many pairs the longest chain of a relationship has that starts at an entity, 0 where it has no such pair.
 ///
-/// It goes through the ids of the entity and of its ancestors, each twice. The first call over a graph also makes a word for each entity, in room that
-/// is there.
+/// It goes through the ids of the entity and of its ancestors, each twice. The first call over a graph also makes a
+/// word for each entity, in room that is there.
 pub fn depth<G: Graph, A: Allocator>(
     graph: &G,
     index: u32,
@@ -389,8 +400,8 @@ pub fn depth<G: Graph, A: Allocator>(
     )
 }
 
-/// The same, where a word for each entity may tell one more than its depth; 0 tells nothing. What is found is noted there, for the entity and for its
-/// ancestors. So calls that share their words look at each ancestor once.
+/// The same, where a word for each entity may tell one more than its depth; 0 tells nothing. What is found is noted
+/// there, for the entity and for its ancestors. So calls that share their words look at each ancestor once.
 ///
 /// It goes through the ids of each of them of which nothing is known, twice.
 pub fn known_depth<G: Graph, A: Allocator>(
@@ -427,29 +438,33 @@ pub fn deleted<G: Holders, A: Allocator>(graph: &G, index: u32, scratch: &mut Sc
     requires covered { G.size graph.now ≤ scratch.old.size }
     requires inside { index < scratch.old.size }
     ensures size { scratch.new.size ≡ scratch.old.size }
-    ensures least { (y : ℕ) → Contains scratch.new.found y ↔ Reached (falling (G.ids graph.now) (G.entities graph.now)) index y }
+    ensures least { (y : ℕ) → Contains scratch.new.found y ↔ Reached
+        (falling (G.ids graph.now) (G.entities graph.now)) index y }
 {
     find_falling(graph, index, &mut scratch.found);
 }
 
 /// Finds who refers to what was found: the entities outside that hold an id which mentions one of the found.
 ///
-/// After `deleted` these are the ones that lose ids with the deleted entities. It goes through what mentions each of the found.
+/// After `deleted` these are the ones that lose ids with the deleted entities. It goes through what mentions each of
+/// the found.
 pub fn find_referrers<G: Holders, A: Allocator>(graph: &G, scratch: &mut Scratch<A>)
     requires covered { G.size graph.now ≤ scratch.old.size }
     ensures same { scratch.new ≡ record scratch.old { referrers = scratch.new.referrers } }
-    ensures exact { (y : ℕ) → Contains scratch.new.referrers y ↔ Contains (referrers (G.ids graph.now) (G.entities graph.now) scratch.old.found) y }
+    ensures exact { (y : ℕ) → Contains scratch.new.referrers y ↔ Contains
+        (referrers (G.ids graph.now) (G.entities graph.now) scratch.old.found) y }
 {
     list_referrers(graph, &scratch.found, &mut scratch.referring);
 }
 
-/// Whether a cleanup rule forbids the deletion of what was found: an entity outside is the source of a pair with one of them as target,
-/// whose relationship has (OnDeleteTarget,Panic), or uses one of them that has (OnDelete,Panic).
+/// Whether a cleanup rule forbids the deletion of what was found: an entity outside is the source of a pair with one of
+/// them as target, whose relationship has (OnDeleteTarget,Panic), or uses one of them that has (OnDelete,Panic).
 ///
 /// It goes through the ids of those that refer to them, once `find_referrers` has found these.
 pub fn deletion_is_forbidden<G: Graph, A: Allocator>(graph: &G, scratch: &Scratch<A>) -> bool
     requires covered { G.size graph.now ≤ scratch.now.size }
-    requires referrers { (y : ℕ) → Contains scratch.now.referrers y ↔ Contains (referrers (G.ids graph.now) (G.entities graph.now) scratch.now.found) y }
+    requires referrers { (y : ℕ) → Contains scratch.now.referrers y
+        ↔ Contains (referrers (G.ids graph.now) (G.entities graph.now) scratch.now.found) y }
     ensures { result ≡ is_forbidden (G.ids graph.now) (G.entities graph.now) scratch.now.found }
 {
     has_forbidder(graph, &scratch.found, scratch.referring.as_slice())

@@ -48,11 +48,13 @@ impl<A: Allocator> Spread<A> {
         }
     }
 
-    /// Whether the last search can be asked for an entity: it began with this one, and what those before it left lacks that other one.
+    /// Whether the last search can be asked for an entity: it began with this one, and what those before it left lacks
+    /// that other one.
     fn asks_for(&self, start: u32, index: u32) -> bool
         requires { index < self.now.found.size }
         ensures start { result ≡ true → self.now.start ≡ Some start }
-        ensures sought { (next : ℕ → List ℕ) → IsTrue result → IsSought next self.now.start self.now.is_alone self.now.found.items self.now.done
+        ensures sought { (next : ℕ → List ℕ) → IsTrue result → IsSought next self.now.start self.now.is_alone
+            self.now.found.items self.now.done
             → IsSoughtFor next start index self.now.is_alone self.now.found.items self.now.done }
     {
         self.is_from(start) && (self.is_alone || !self.found.is_found(index))
@@ -60,7 +62,8 @@ impl<A: Allocator> Spread<A> {
 
     /// Whether all that was found leads to no others.
     fn is_complete(&self) -> bool
-        ensures { (next : ℕ → List ℕ) → IsTrue result → IsSought next self.now.start self.now.is_alone self.now.found.items self.now.done
+        ensures { (next : ℕ → List ℕ) → IsTrue result → IsSought next self.now.start self.now.is_alone
+            self.now.found.items self.now.done
             → IsClosed next self.now.found.items }
     {
         self.start.is_some() && self.found.len() <= self.done
@@ -68,13 +71,15 @@ impl<A: Allocator> Spread<A> {
 
     /// Goes on with a search that asks whether an entity leads to another one, or begins it.
     ///
-    /// Where all was followed that was found, and the other one isn't there, this stays: who is found already doesn't lead to it.
+    /// Where all was followed that was found, and the other one isn't there, this stays: who is found already doesn't
+    /// lead to it.
     pub fn seek(&mut self, start: u32, index: u32)
         requires start { start < self.old.found.size }
         requires index { index < self.old.found.size }
         ensures size { self.new.found.size ≡ self.old.found.size }
         ensures start { self.new.start ≡ Some start }
-        ensures sought { (next : ℕ → List ℕ) → IsSought next self.old.start self.old.is_alone self.old.found.items self.old.done
+        ensures sought { (next : ℕ → List ℕ) → IsSought next self.old.start self.old.is_alone self.old.found.items
+            self.old.done
             → IsSoughtFor next start index self.new.is_alone self.new.found.items self.new.done }
     {
         if self.asks_for(start, index) {
@@ -123,7 +128,8 @@ impl<A: Allocator> Spread<A> {
     /// Whether an entity is reached from another one, if that is known.
     pub fn tells(&self, start: u32, index: u32) -> Option<bool>
         requires { index < self.now.found.size }
-        ensures { IfSome result (λ reached. (next : ℕ → List ℕ) → IsSought next self.now.start self.now.is_alone self.now.found.items self.now.done
+        ensures { IfSome result (λ reached. (next : ℕ → List ℕ) → IsSought next self.now.start self.now.is_alone
+            self.now.found.items self.now.done
             → (IsTrue reached ↔ Reached next start index)) }
     {
         if !self.asks_for(start, index) {

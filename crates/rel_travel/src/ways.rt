@@ -18,7 +18,8 @@ use std::marker::Model;
 /// A list is looked up in the time of so many steps.
 const LOOK_UP: usize = 4;
 
-/// How far the search from a target may go. It may take as many steps as those from sources took since the target is the same.
+/// How far the search from a target may go. It may take as many steps as those from sources took since the target is
+/// the same.
 #[derive(Clone, Copy)]
 struct Pace {
     /// So many steps are left.
@@ -27,8 +28,8 @@ struct Pace {
     wanted: usize,
 }
 
-/// What is known of where one relationship leads: to whom from the entity that was asked last, and from those before it where that leads to no
-/// others; and from whom to the one that was asked last.
+/// What is known of where one relationship leads: to whom from the entity that was asked last, and from those before it
+/// where that leads to no others; and from whom to the one that was asked last.
 ///
 /// Room is made by `reserve`; the other calls take no memory.
 #[derive(Drop)]
@@ -49,8 +50,18 @@ impl<A: Allocator> Model for Ways<A> {
     ghost view = { λ w. record {
       size = w.below.found.size;
       is_transitive = w.is_transitive;
-      above = record { start = w.above.start; is_alone = w.above.is_alone; found = w.above.found.items; done = w.above.done };
-      below = record { start = w.below.start; is_alone = w.below.is_alone; found = w.below.found.items; done = w.below.done };
+      above = record {
+        start = w.above.start;
+        is_alone = w.above.is_alone;
+        found = w.above.found.items;
+        done = w.above.done;
+      };
+      below = record {
+        start = w.below.start;
+        is_alone = w.below.is_alone;
+        found = w.below.found.items;
+        done = w.below.done;
+      };
     } };
 
     ghost invariant = { λ w. w.below.found.size ≤ w.above.found.size };
@@ -91,8 +102,8 @@ impl<A: Allocator> Ways<A> {
         self.below.forget();
     }
 
-    /// Whether ways of a relationship can be known here: there is room for those of the graph, and the relationship is transitive. It is asked for its traits
-    /// until it is.
+    /// Whether ways of a relationship can be known here: there is room for those of the graph, and the relationship is
+    /// transitive. It is asked for its traits until it is.
     fn fit<G: Graph>(&mut self, graph: &G, relationship: u32) -> bool
         requires { AreWays (G.entities graph.now) (G.ids graph.now) relationship self.old }
         ensures ways { AreWays (G.entities graph.now) (G.ids graph.now) relationship self.new }
@@ -109,10 +120,12 @@ impl<A: Allocator> Ways<A> {
     }
 }
 
-/// Whether a relationship leads from one entity to another, where it may be known already. What is found is noted there.
+/// Whether a relationship leads from one entity to another, where it may be known already. What is found is noted
+/// there.
 ///
-/// It goes on from where the search from this source ended, or from where one ended without this target. Where sources lead there it takes as many
-/// steps from the target: so a source or a target that stays is searched from once. Where there is no room for ways it searches anew.
+/// It goes on from where the search from this source ended, or from where one ended without this target. Where sources
+/// lead there it takes as many steps from the target: so a source or a target that stays is searched from once. Where
+/// there is no room for ways it searches anew.
 pub fn known_reaches<G: Holders, A: Allocator, B: Allocator>(
     graph: &G,
     relationship: u32,
@@ -158,13 +171,17 @@ fn leads_to_other<G: Holders, A: Allocator>(
     requires wider { below.old.found.size ≤ above.old.found.size }
     requires source { source < G.size graph.now }
     requires target { target < G.size graph.now }
-    requires above { IsSought (upward (G.ids graph.now) relationship) above.old.start above.old.is_alone above.old.found.items above.old.done }
-    requires below { IsSought (λ x. holders_of_pair (G.entities graph.now) (G.ids graph.now) x relationship) below.old.start below.old.is_alone
+    requires above { IsSought (upward (G.ids graph.now) relationship) above.old.start above.old.is_alone
+        above.old.found.items above.old.done }
+    requires below { IsSought (λ x. holders_of_pair (G.entities graph.now) (G.ids graph.now) x relationship)
+        below.old.start below.old.is_alone
         below.old.found.items below.old.done }
     ensures above_size { above.new.found.size ≡ above.old.found.size }
     ensures below_size { below.new.found.size ≡ below.old.found.size }
-    ensures above { IsSought (upward (G.ids graph.now) relationship) above.new.start above.new.is_alone above.new.found.items above.new.done }
-    ensures below { IsSought (λ x. holders_of_pair (G.entities graph.now) (G.ids graph.now) x relationship) below.new.start below.new.is_alone
+    ensures above { IsSought (upward (G.ids graph.now) relationship) above.new.start above.new.is_alone
+        above.new.found.items above.new.done }
+    ensures below { IsSought (λ x. holders_of_pair (G.entities graph.now) (G.ids graph.now) x relationship)
+        below.new.start below.new.is_alone
         below.new.found.items below.new.done }
     ensures answer { IsTrue result ↔ Reached (upward (G.ids graph.now) relationship) source target }
 {
@@ -198,10 +215,12 @@ fn go_on_below<G: Holders, A: Allocator>(
 )
     requires covered { G.size graph.now ≤ below.old.found.size }
     requires target { target < below.old.found.size }
-    requires sought { IsSought (λ x. holders_of_pair (G.entities graph.now) (G.ids graph.now) x relationship) below.old.start below.old.is_alone
+    requires sought { IsSought (λ x. holders_of_pair (G.entities graph.now) (G.ids graph.now) x relationship)
+        below.old.start below.old.is_alone
         below.old.found.items below.old.done }
     ensures size { below.new.found.size ≡ below.old.found.size }
-    ensures sought { IsSought (λ x. holders_of_pair (G.entities graph.now) (G.ids graph.now) x relationship) below.new.start below.new.is_alone
+    ensures sought { IsSought (λ x. holders_of_pair (G.entities graph.now) (G.ids graph.now) x relationship)
+        below.new.start below.new.is_alone
         below.new.found.items below.new.done }
 {
     let _ = graph.size();
@@ -226,7 +245,8 @@ fn go_on_below<G: Holders, A: Allocator>(
     }
 }
 
-/// How many of so many steps are left behind those that it takes to find the sources of an entity, or None where they are too few.
+/// How many of so many steps are left behind those that it takes to find the sources of an entity, or None where they
+/// are too few.
 fn left_behind<G: Holders>(
     graph: &G,
     relationship: u32,

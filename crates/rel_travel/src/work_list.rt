@@ -48,7 +48,8 @@ pub fn gather_until<R: Rule, A: Allocator>(rule: &R, index: u32, found: &mut Fou
     go_on_until(rule, index, &mut done, found)
 }
 
-/// The same, where the first so many of the found have brought all that they bring. So a search goes on from where it ended.
+/// The same, where the first so many of the found have brought all that they bring. So a search goes on from where it
+/// ended.
 pub fn go_on_until<R: Rule, A: Allocator>(
     rule: &R,
     index: u32,

@@ -14,7 +14,8 @@ use std::alloc::{AllocError, Allocator};
 /// So many bytes of a line are quoted.
 const MOST_QUOTED: usize = 160;
 
-/// Writes what is wrong with a refused line: where it stands and its kind, the line with marks under what is wrong, and a sentence.
+/// Writes what is wrong with a refused line: where it stands and its kind, the line with marks under what is wrong, and
+/// a sentence.
 pub(crate) fn write_explanation<A: Allocator>(
     file: &str,
     refusal: &Refusal,

@@ -2,7 +2,8 @@
 ghost use Rattle.std.specs.Prelude.{◌≡◌, is_some};
 ghost use Rattle.script_explain.specs.Kinds.{is_among, is_explained, line_kinds, query_kinds, world_kinds};
 
-/// A sentence on what is wrong with a line that was refused as this kind. (`BadLine` has none: what is wrong depends on the line.)
+/// A sentence on what is wrong with a line that was refused as this kind. (`BadLine` has none: what is wrong depends on
+/// the line.)
 pub(crate) fn sentence_of(kind: &str) -> Option<&'static str>
     ensures { is_some result ≡ is_explained kind.now }
 {

@@ -1,8 +1,8 @@
 //! What is wrong with a refused line of a script, in a few lines of text.
 //!
-//! A script runs as ever: `Watched` stands before its reader and `Explaining` before its writer. Both pass on what they are given and
-//! answer as what stands behind them does. Each output line `error LINE KIND` that was written is explained to a second writer: with the line
-//! itself, a mark under what is wrong, and a sentence.
+//! A script runs as ever: `Watched` stands before its reader and `Explaining` before its writer. Both pass on what they
+//! are given and answer as what stands behind them does. Each output line `error LINE KIND` that was written is
+//! explained to a second writer: with the line itself, a mark under what is wrong, and a sentence.
 #![tactic(auto)]
 
 mod bytes;

@@ -42,7 +42,8 @@ impl<R: Source, A: Allocator> Source for Watched<'_, R, A> {
     }
 }
 
-/// A writer, and another one to which is explained what the lines `error LINE KIND` that it takes tell of the lines of a script.
+/// A writer, and another one to which is explained what the lines `error LINE KIND` that it takes tell of the lines of
+/// a script.
 #[derive(Drop)]
 pub struct Explaining<'a, W, E, A: Allocator = Global> {
     writer: W,

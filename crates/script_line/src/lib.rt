@@ -1,6 +1,7 @@
 //! The lines of a script, a format of this product's own: reads one line into what it asks.
 //!
-//! Reading takes time linear in the line. Names and texts are slices of the line, and only fields and values are allocated.
+//! Reading takes time linear in the line. Names and texts are slices of the line, and only fields and values are
+//! allocated.
 #![tactic(auto)]
 
 ghost use Rattle.std.specs.Prelude.{◌≡◌, IfOk, IsTrue, MatchOption, nat_lt};
@@ -73,8 +74,8 @@ pub enum Line<'a, A: Allocator = Global> {
     Query {
         text: &'a str,
     },
-    /// `keep N TEXT`, `monitor N TEXT` or `on EVENT N TEXT`: a new stored query. The name is any word. The text has no blanks at
-    /// its ends, and may be empty.
+    /// `keep N TEXT`, `monitor N TEXT` or `on EVENT N TEXT`: a new stored query. The name is any word. The text has no
+    /// blanks at its ends, and may be empty.
     Store {
         kind: StoredKind,
         name: &'a str,
@@ -203,8 +204,8 @@ fn are_few_ascii(bytes: &[u8]) -> bool
 
 /// Reads a line whose first word was read.
 ///
-/// The values of a `set` come into `values`, in place of what stood there, so that one list serves all lines of a script. The only
-/// error is that memory for fields or values was refused.
+/// The values of a `set` come into `values`, in place of what stood there, so that one list serves all lines of a
+/// script. The only error is that memory for fields or values was refused.
 pub fn read_opened<'a, A: Allocator + Copy>(
     alloc: A,
     opening: Opening<'a>,

@@ -1,11 +1,15 @@
 //! The forms of lines.
-ghost use Rattle.std.specs.Prelude.{◌≡◌, ◌<◌, ℕ, ℤ, List, drop, length, map, slice_index, IfOk, IfSome, None, Some, option_map, if◌then◌else◌};
+ghost use Rattle.std.specs.Prelude.{◌≡◌, ◌<◌, ℕ, ℤ, List, drop, length, map, slice_index, IfOk, IfSome, None, Some};
+ghost use Rattle.std.specs.Prelude.{option_map, if◌then◌else◌};
 ghost use Rattle.ecs_model.specs.Text.{trim_front, words};
-ghost use Rattle.ecs_model.specs.Script.{Form, AskKept, BadLine, CarryOut, Show, all_of, component_line, entity_line, fact_line, field_of_word, form_or_bad};
-ghost use Rattle.ecs_model.specs.Script.{nothing_more, on_line, one_word, says_nothing, set_line, store_line, value_of_word};
+ghost use Rattle.ecs_model.specs.Script.{Form, AskKept, BadLine, CarryOut, Show, all_of, component_line, entity_line};
+ghost use Rattle.ecs_model.specs.Script.{fact_line, field_of_word, form_or_bad};
+ghost use Rattle.ecs_model.specs.Script.{nothing_more, on_line, one_word, says_nothing, set_line, store_line};
+ghost use Rattle.ecs_model.specs.Script.{value_of_word};
 ghost use Rattle.ecs_model.specs.Orders.{EntityRef, IdRef, AddTo, DeleteOne, MakeEntity, MakeFresh, RemoveFrom, SetIn};
 ghost use Rattle.ecs_model.specs.stored.Session.{Drop, InWorld};
-ghost use Rattle.script_line.specs.Line.{by_first_word, by_rarer_word, deed_form, deed_line, deed_words, form_opened, seen, seen_deed, seen_field};
+ghost use Rattle.script_line.specs.Line.{by_first_word, by_rarer_word, deed_form, deed_line, deed_words, form_opened};
+ghost use Rattle.script_line.specs.Line.{seen, seen_deed, seen_field};
 ghost use Rattle.ecs_model.specs.References.{seen_id, seen_reference};
 
 use crate::blanks::{blanks_at_front, next_word, trim_front, trimmed, word_and_rest, word_start};
@@ -50,7 +54,8 @@ fn opened_by_word(text: &str) -> Opening<'_>
     }
 }
 
-/// Reads the first word of a line where that stands at its front, before a space, and is one that most lines begin with; and the line `new`.
+/// Reads the first word of a line where that stands at its front, before a space, and is one that most lines begin
+/// with; and the line `new`.
 // A few bytes are compared at once then, and none is looked at twice.
 #[inline(always)]
 #[tactic(auto, unfolding(ecs_model::specs::Script::forms))]
@@ -132,7 +137,8 @@ pub(crate) fn read_form<'a, A: Allocator + Copy>(
 }
 
 /// Reads a line by its first word, which is none of those that most lines begin with.
-// The words are compared one after another. `rows` and `remove` come last: a line that was opened comes here with neither.
+// The words are compared one after another. `rows` and `remove` come last: a line that was opened comes here with
+// neither.
 #[tactic(auto, unfolding(ecs_model::specs::Script::forms))]
 fn rarer_line<'a, A: Allocator>(word: &str, rest: &'a str) -> Line<'a, A>
     ensures { (values : List ℤ) → seen values result ≡ by_rarer_word word.now rest.now }
@@ -166,7 +172,8 @@ fn new_line<'a, A: Allocator>(rest: &'a str) -> Line<'a, A>
 
 /// Reads what stands behind `entity`: one word.
 pub(crate) fn entity_line<'a, A: Allocator>(rest: &'a str) -> Line<'a, A>
-    ensures { (values : List ℤ) → seen values result ≡ one_word (λ n. CarryOut (InWorld (MakeEntity n))) (words rest.now) }
+    ensures { (values : List ℤ) → seen values result ≡ one_word (λ n. CarryOut (InWorld (MakeEntity n)))
+        (words rest.now) }
 {
     match only_word(rest) {
         Some(name) => Line::Entity { name },
@@ -320,7 +327,8 @@ fn bare_fact(text: &str) -> Option<Fact<'_>>
     }
 }
 
-/// Reads what stands behind `set`: an entity, an id and one or more values, which come into `values` in place of what stood there.
+/// Reads what stands behind `set`: an entity, an id and one or more values, which come into `values` in place of what
+/// stood there.
 #[inline(always)]
 fn valued_fact<'a, A: Allocator>(
     text: &'a str,
@@ -340,8 +348,8 @@ fn valued_fact<'a, A: Allocator>(
     }
 }
 
-/// Reads what stands behind the word of a deed: an entity and an id, and behind `set` one or more values, which come into `values` in place of what stood
-/// there.
+/// Reads what stands behind the word of a deed: an entity and an id, and behind `set` one or more values, which come
+/// into `values` in place of what stood there.
 // One function for the three deeds, so that the code that reads an entity and an id stands once where it is inlined.
 #[inline(always)]
 pub fn fact_behind<'a, A: Allocator>(
@@ -380,7 +388,8 @@ fn fits_behind<A: Allocator>(
 
 /// Reads what stands behind `add`: an entity and an id.
 pub(crate) fn add_line<'a, A: Allocator>(rest: &'a str) -> Line<'a, A>
-    ensures { (values : List ℤ) → seen values result ≡ fact_line (λ r i. nothing_more (CarryOut (InWorld (AddTo r i)))) rest.now }
+    ensures { (values : List ℤ) → seen values result ≡ fact_line
+        (λ r i. nothing_more (CarryOut (InWorld (AddTo r i)))) rest.now }
 {
     match bare_fact(rest) {
         Some(fact) => Line::Add {
@@ -393,7 +402,8 @@ pub(crate) fn add_line<'a, A: Allocator>(rest: &'a str) -> Line<'a, A>
 
 /// Reads what stands behind `remove`: an entity and an id.
 pub(crate) fn remove_line<'a, A: Allocator>(rest: &'a str) -> Line<'a, A>
-    ensures { (values : List ℤ) → seen values result ≡ fact_line (λ r i. nothing_more (CarryOut (InWorld (RemoveFrom r i)))) rest.now }
+    ensures { (values : List ℤ) → seen values result ≡ fact_line
+        (λ r i. nothing_more (CarryOut (InWorld (RemoveFrom r i)))) rest.now }
 {
     match bare_fact(rest) {
         Some(fact) => Line::Remove {

@@ -5,7 +5,8 @@ ghost use Rattle.ecs_model.specs.Text.{trim_front};
 ghost use Rattle.ecs_model.specs.Script.{handle_of, id_and_rest, pair_and_rest, pair_in, reference_of};
 ghost use Rattle.ecs_model.specs.Orders.{plain_of};
 ghost use Rattle.ecs_model.specs.References.{seen_id, seen_reference};
-ghost use Rattle.script_line.specs.Line.{ends_reference, seen_handle, seen_id_and_rest, seen_reference_and_rest, word_read};
+ghost use Rattle.script_line.specs.Line.{ends_reference, seen_handle, seen_id_and_rest, seen_reference_and_rest};
+ghost use Rattle.script_line.specs.Line.{word_read};
 
 use crate::blanks::{is_apart, is_blank, trim_front, trimmed};
 use crate::decimals::number_within;
@@ -77,7 +78,8 @@ fn ends_reference(byte: u8) -> bool
     byte <= b',' && (is_blank(byte) || byte == b'(' || byte == b')' || byte == b',')
 }
 
-/// Reads a handle behind its `#`: an index of 1 to 9 digits, one `.`, and a generation of 1 to 5 digits, at most 65,535.
+/// Reads a handle behind its `#`: an index of 1 to 9 digits, one `.`, and a generation of 1 to 5 digits, at most
+/// 65,535.
 #[cold]
 #[inline(never)]
 fn handle_of(text: &str) -> Option<EntityId>
@@ -119,7 +121,8 @@ fn pair_and_rest(text: &str) -> Option<(IdReference<'_>, &str)>
     }
 }
 
-/// Reads a pair without blanks behind its `(`, and what stands behind its `)`. None where there is no such pair: it may be one with blanks.
+/// Reads a pair without blanks behind its `(`, and what stands behind its `)`. None where there is no such pair: it may
+/// be one with blanks.
 // The text is gone over once.
 #[inline(always)]
 fn close_pair_and_rest(text: &str) -> Option<(IdReference<'_>, &str)>
@@ -170,7 +173,8 @@ fn pair_in(text: &str) -> Option<IdReference<'_>>
 /// Reads the first word of a text that begins with it as an id, and what stands behind it.
 #[inline(always)]
 fn plain_and_rest(text: &str) -> Option<(IdReference<'_>, &str)>
-    ensures { option_map seen_id_and_rest result ≡ option_map (λ r. (plain_of r.0, r.1)) (word_read reference_of text.now) }
+    ensures { option_map seen_id_and_rest result ≡ option_map (λ r. (plain_of r.0, r.1))
+        (word_read reference_of text.now) }
 {
     let (reference, rest) = reference_and_rest(text)?;
     Some((IdReference::Plain(reference), rest))

@@ -13,7 +13,8 @@ use ecs_model::watches::StoredKind;
 /// The greatest number of digits of a value.
 const MAX_DIGITS: usize = 38;
 
-/// Reads the first word of a text that begins with it as a value, an optional `-` and 1 to 38 digits, and what stands behind it.
+/// Reads the first word of a text that begins with it as a value, an optional `-` and 1 to 38 digits, and what stands
+/// behind it.
 #[inline(always)]
 pub(crate) fn value_and_rest(text: &str) -> Option<(i128, &str)>
     ensures value { option_map seen_value_and_rest result ≡ word_read value_of_word text.now }

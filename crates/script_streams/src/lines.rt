@@ -1,5 +1,6 @@
 //! The lines of a script, as its bytes come.
-ghost use Rattle.std.specs.Prelude.{◌≡◌, ◌+◌, ◌≤◌, ◌<◌, [], ◌∷◌, ◌++◌, ℕ, false, length, take, Err, IfOk, IfSome, None, OnErr, OnOk, Ok, true};
+ghost use Rattle.std.specs.Prelude.{◌≡◌, ◌+◌, ◌≤◌, ◌<◌, [], ◌∷◌, ◌++◌, ℕ, false, length, take, Err, IfOk, IfSome, None};
+ghost use Rattle.std.specs.Prelude.{OnErr, OnOk, Ok, true};
 ghost use Rattle.std.specs.Io.KnownBytes.{Consumes, IsAtEnd, Keeps};
 ghost use Rattle.script_streams.specs.Lines.{HasNoEnd, TakesLine, kept, most_bytes, part};
 ghost use Rattle.script_streams.specs.Streams.{IsCalm, IsFaulty, StaysCalm};
@@ -87,7 +88,8 @@ impl<A: Allocator + Copy> Lines<A> {
 }
 
 impl<A: Allocator> Lines<A> {
-    /// Takes the next line whose end has come, and answers whether there is one. Where there is none, what has come is the front of one.
+    /// Takes the next line whose end has come, and answers whether there is one. Where there is none, what has come is
+    /// the front of one.
     ///
     /// Of a line that came in more than one piece the first 4,097 bytes are kept.
     #[tactic(auto, using(crate::proofs::KeptLines::kept_twice))]
@@ -130,7 +132,8 @@ impl<A: Allocator> Lines<A> {
         self.front.as_slice()
     }
 
-    /// Reads once more, and again after each of up to 64 interruptions in a row. Answers whether bytes came: none only at the end.
+    /// Reads once more, and again after each of up to 64 interruptions in a row. Answers whether bytes came: none only
+    /// at the end.
     ///
     /// Fails where a read fails, and where a byte more than a script may have came.
     pub fn fill<R: Source>(&mut self, reader: &mut R) -> Result<bool, FillError>
@@ -147,7 +150,8 @@ impl<A: Allocator> Lines<A> {
         ensures uncounted { OnErr result (self.new.read ≡ self.old.read) }
         ensures calm { IsCalm (R.calls reader.old) → OnOk result (IsCalm (R.calls reader.new)) }
         ensures fault { IsCalm (R.calls reader.old) → result ≡ Err FillError.Read → IsFaulty (R.calls reader.new) }
-        ensures calm_too_long { IsCalm (R.calls reader.old) → result ≡ Err FillError.TooLong → IsCalm (R.calls reader.new) }
+        ensures calm_too_long { IsCalm (R.calls reader.old) → result ≡ Err FillError.TooLong
+            → IsCalm (R.calls reader.new) }
     {
         let room = PIECE.min(MOST_BYTES - self.read);
         if room == 0 {
@@ -169,7 +173,8 @@ fn read_front<R: Source>(reader: &mut R, piece: &mut [u8], room: usize) -> Resul
     requires some { 0 < room }
     requires within { room ≤ length piece.old }
     ensures bound { IfOk result (λ count. count ≤ room) }
-    ensures bytes { IfOk result (λ count. Consumes (R.remaining reader.old) (R.remaining reader.new) (part 0 count piece.new)) }
+    ensures bytes { IfOk result (λ count. Consumes (R.remaining reader.old) (R.remaining reader.new)
+        (part 0 count piece.new)) }
     ensures end { IfOk result (λ count. count ≡ 0 → IsAtEnd (R.remaining reader.new)) }
     ensures refused { OnErr result (Keeps (R.remaining reader.old) (R.remaining reader.new)) }
     ensures calm { StaysCalm (R.calls reader.old) result (R.calls reader.new) }
@@ -183,7 +188,8 @@ fn first_end(piece: &[u8], begin: usize, end: usize) -> Option<usize>
     requires ascends { begin ≤ end }
     requires within { end ≤ length piece.now }
     ensures within { IfSome result (λ at. (begin ≤ at) × (at < end)) }
-    ensures found { IfSome result (λ at. part begin end piece.now ≡ part begin at piece.now ++ 10 ∷ part (at + 1) end piece.now) }
+    ensures found { IfSome result (λ at. part begin end piece.now
+        ≡ part begin at piece.now ++ 10 ∷ part (at + 1) end piece.now) }
     ensures before { IfSome result (λ at. HasNoEnd (part begin at piece.now)) }
     ensures none { result ≡ None → HasNoEnd (part begin end piece.now) }
 {
@@ -196,7 +202,8 @@ fn find_end<R: Source>(reader: &mut R) -> Result<bool, FillError>
     ensures bytes { OnOk result (Consumes (R.remaining reader.old) (R.remaining reader.new) []) }
     ensures end { IfOk result (λ more. (more ≡ false) × IsAtEnd (R.remaining reader.new)) }
     ensures stopped { result ≡ Err FillError.Read → Keeps (R.remaining reader.old) (R.remaining reader.new) }
-    ensures too_long { result ≡ Err FillError.TooLong → ((byte : ℕ) × Consumes (R.remaining reader.old) (R.remaining reader.new) (byte ∷ [])) }
+    ensures too_long { result ≡ Err FillError.TooLong → ((byte : ℕ)
+        × Consumes (R.remaining reader.old) (R.remaining reader.new) (byte ∷ [])) }
     ensures calm { IsCalm (R.calls reader.old) → OnOk result (IsCalm (R.calls reader.new)) }
     ensures fault { IsCalm (R.calls reader.old) → result ≡ Err FillError.Read → IsFaulty (R.calls reader.new) }
     ensures calm_too_long { IsCalm (R.calls reader.old) → result ≡ Err FillError.TooLong → IsCalm (R.calls reader.new) }

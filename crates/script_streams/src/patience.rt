@@ -18,7 +18,8 @@ pub struct Fault;
 pub fn read_patiently<R: Source>(reader: &mut R, piece: &mut [u8]) -> Result<usize, Fault>
     requires { 0 < length piece.old }
     ensures bound { IfOk result (λ count. count ≤ length piece.new) }
-    ensures bytes { IfOk result (λ count. Consumes (R.remaining reader.old) (R.remaining reader.new) (take count piece.new)) }
+    ensures bytes { IfOk result (λ count. Consumes (R.remaining reader.old) (R.remaining reader.new)
+        (take count piece.new)) }
     ensures end { IfOk result (λ count. count ≡ 0 → IsAtEnd (R.remaining reader.new)) }
     ensures refused { OnErr result (Keeps (R.remaining reader.old) (R.remaining reader.new)) }
     ensures calm { StaysCalm (R.calls reader.old) result (R.calls reader.new) }
@@ -33,12 +34,14 @@ pub fn read_patiently<R: Source>(reader: &mut R, piece: &mut [u8]) -> Result<usi
     Err(Fault)
 }
 
-/// Writes the front of some bytes, and again after each of up to 64 interruptions in a row. Answers how many bytes went: at least one.
+/// Writes the front of some bytes, and again after each of up to 64 interruptions in a row. Answers how many bytes
+/// went: at least one.
 fn write_patiently<W: Sink>(writer: &mut W, bytes: &[u8]) -> Result<usize, Fault>
     requires { 0 < length bytes.now }
     ensures some { IfOk result (λ count. 0 < count) }
     ensures bound { IfOk result (λ count. count ≤ length bytes.now) }
-    ensures bytes { IfOk result (λ count. Appends (W.contents writer.old) (W.contents writer.new) (take count bytes.now)) }
+    ensures bytes { IfOk result (λ count. Appends (W.contents writer.old) (W.contents writer.new)
+        (take count bytes.now)) }
     ensures refused { OnErr result (Keeps (W.contents writer.old) (W.contents writer.new)) }
     ensures calm { StaysCalm (W.calls writer.old) result (W.calls writer.new) }
 {

@@ -107,7 +107,8 @@ pub trait Sink {
     // What is told of the writes so far.
     ghost calls: { Self → Calls };
 
-    // What a write does, where more is told than by its bytes: before it, how many bytes it is given, its answer, and after it.
+    // What a write does, where more is told than by its bytes: before it, how many bytes it is given, its answer, and
+    // after it.
     ghost writes: { Self → ℕ → Result ℕ Stop → Self → Type 0 } = { λ _ _ _ _. ⊤ };
 
     /// Takes the first of the bytes, and answers how many.

@@ -80,7 +80,8 @@ fn take_turn(turns: &mut &[Turn]) -> Turn
     }
 }
 
-/// Copies at most so many of the bytes behind those given to the buffer's front, at least one where there is one and room for it, and answers how many.
+/// Copies at most so many of the bytes behind those given to the buffer's front, at least one where there is one and
+/// room for it, and answers how many.
 fn give(bytes: &[u8], given: usize, most: usize, buffer: &mut [u8]) -> usize
     requires { given ≤ length bytes.now }
     ensures bound { result ≤ length buffer.new }

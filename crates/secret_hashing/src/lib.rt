@@ -13,7 +13,8 @@ use std::hash::{BuildHasher, FoldHasher, Hasher, RandomState};
 
 /// Hashes by multiplications that begin and end with secret numbers.
 ///
-/// An author of scripts chooses what keys are made of, but writes before the numbers are drawn, and no answer depends on them.
+/// An author of scripts chooses what keys are made of, but writes before the numbers are drawn, and no answer depends
+/// on them.
 #[derive(Clone, Copy)]
 pub struct Hashing {
     begun: FoldHasher,

@@ -18,8 +18,8 @@ pub(crate) enum Kept<A: Allocator> {
 
 /// A list of numbers of which up to four stand in the value, and take no block of memory.
 ///
-/// It isn't made for any type of items: a value that holds some of a type parameter has no known size, which each caller would have to answer for.
-/// So `ShortNumbers` is a second one.
+/// It isn't made for any type of items: a value that holds some of a type parameter has no known size, which each
+/// caller would have to answer for. So `ShortNumbers` is a second one.
 #[derive(Drop)]
 pub struct ShortList<A: Allocator> {
     pub(crate) kept: Kept<A>,

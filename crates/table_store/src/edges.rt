@@ -31,8 +31,8 @@ pub struct Several<A: Allocator> {
 
 /// For some ids, the key of a table.
 ///
-/// Most tables have one edge or none, and these take no memory of their own. A few take a block, and those of tables with many are hashed, so a look-up
-/// takes constant time whatever the ids.
+/// Most tables have one edge or none, and these take no memory of their own. A few take a block, and those of tables
+/// with many are hashed, so a look-up takes constant time whatever the ids.
 #[derive(Drop)]
 pub enum Edges<A: Allocator> {
     Empty,

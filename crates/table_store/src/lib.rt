@@ -22,8 +22,9 @@
 //! assert!(rt; store.get(moving).is_none());
 //! ```
 //!
-//! What a call requires, as a key under which a table stands, its caller proves: no call fails for want of it. Only `find_or_make`,
-//! `with`, `without` and `reserve` take memory. Where it is refused they answer `Memory`, and the store is as it was.
+//! What a call requires, as a key under which a table stands, its caller proves: no call fails for want of it. Only
+//! `find_or_make`, `with`, `without` and `reserve` take memory. Where it is refused they answer `Memory`, and the store
+//! is as it was.
 #![tactic(auto, using(ecs_id::specs::Id::id_tests))]
 
 mod by_ids;

@@ -41,7 +41,8 @@ fn push_below<A: Allocator>(
     table: &Table<A>,
     id: Id,
 ) -> Result<(), AllocError>
-    ensures { OnOk result (cells.new.items ≡ cells.old.items ++ map (λ i. (i, byte_size table.now i)) (filter (λ i. is_lt (id_cmp i id)) (table.now).ids)) }
+    ensures { OnOk result (cells.new.items ≡ cells.old.items ++ map (λ i. (i, byte_size table.now i))
+        (filter (λ i. is_lt (id_cmp i id)) (table.now).ids)) }
 {
     for known in table.ids() {
         if *known < id {
@@ -57,7 +58,8 @@ fn push_above<A: Allocator>(
     table: &Table<A>,
     id: Id,
 ) -> Result<(), AllocError>
-    ensures { OnOk result (cells.new.items ≡ cells.old.items ++ map (λ i. (i, byte_size table.now i)) (filter (λ i. is_lt (id_cmp id i)) (table.now).ids)) }
+    ensures { OnOk result (cells.new.items ≡ cells.old.items ++ map (λ i. (i, byte_size table.now i))
+        (filter (λ i. is_lt (id_cmp id i)) (table.now).ids)) }
 {
     for known in table.ids() {
         if id < *known {
@@ -73,7 +75,8 @@ fn push_others<A: Allocator>(
     table: &Table<A>,
     id: Id,
 ) -> Result<(), AllocError>
-    ensures { OnOk result (cells.new.items ≡ cells.old.items ++ map (λ i. (i, byte_size table.now i)) (filter (λ i. not (id_eq i id)) (table.now).ids)) }
+    ensures { OnOk result (cells.new.items ≡ cells.old.items ++ map (λ i. (i, byte_size table.now i))
+        (filter (λ i. not (id_eq i id)) (table.now).ids)) }
 {
     for known in table.ids() {
         if *known != id {

@@ -1,6 +1,8 @@
 //! The store of tables.
-ghost use Rattle.std.specs.Prelude.{◌≡◌, ◌==◌, ◌↔◌, ◌<◌, ◌≤◌, ◌-◌, ◌+◌, ◌*◌, ◌^◌, ◌⊎◌, ◌≢◌, ◌++◌, ◌∷◌, MatchResult, ℕ, [], IfOk, OnOk, OnErr, IsOk, IsNone};
-ghost use Rattle.std.specs.Prelude.{IsSome, IfSome, MatchOption, None, Some, map, max, min, length, option_map, slice_get, slice_index_or, false, IsTrue};
+ghost use Rattle.std.specs.Prelude.{◌≡◌, ◌==◌, ◌↔◌, ◌<◌, ◌≤◌, ◌-◌, ◌+◌, ◌*◌, ◌^◌, ◌⊎◌, ◌≢◌, ◌++◌, ◌∷◌, MatchResult, ℕ};
+ghost use Rattle.std.specs.Prelude.{[], IfOk, OnOk, OnErr, IsOk, IsNone};
+ghost use Rattle.std.specs.Prelude.{IsSome, IfSome, MatchOption, None, Some, map, max, min, length, option_map};
+ghost use Rattle.std.specs.Prelude.{slice_get, slice_index_or, false, IsTrue};
 ghost use Rattle.std.specs.FinMap.{is_sorted};
 ghost use Rattle.std.specs.Ordering.{nat_cmp};
 ghost use Rattle.std.specs.List.{Contains, filter};
@@ -10,11 +12,14 @@ ghost use Rattle.ecs_id.specs.Id.{Id, id_cmp};
 ghost use Rattle.ecs_id.specs.declared.Place.{Place};
 ghost use Rattle.ecs_id.specs.declared.TableKey.{TableKey};
 ghost use Rattle.ecs_table.specs.Archetype.{Archetype, with_column, with_row, with_value, without_row};
-ghost use Rattle.table_store.specs.Store.{HasSize, Shape, changed_at, find_in, moved_at, released_at, room_at, shape_at, shaped, size_in, table_at, with_id};
+ghost use Rattle.table_store.specs.Store.{HasSize, Shape, changed_at, find_in, moved_at, released_at, room_at};
+ghost use Rattle.table_store.specs.Store.{shape_at, shaped, size_in, table_at, with_id};
 ghost use Rattle.table_store.specs.Store.{without_id};
 ghost use Rattle.table_store.specs.ByIds.{HasSlot, KeepsSlots};
-ghost use Rattle.table_store.specs.Kept.{HasNoEdge, IsMade, IsPut, IsWritten, edge_of, edges_of, is_held, standing, stepped};
-ghost use Rattle.table_store.specs.Rows.{AreValues, IsStored, Row, filler, moved_rows, removed_rows, row_at, rows_in, with_cell, with_column_at, with_row_at};
+ghost use Rattle.table_store.specs.Kept.{HasNoEdge, IsMade, IsPut, IsWritten, edge_of, edges_of, is_held, standing};
+ghost use Rattle.table_store.specs.Kept.{stepped};
+ghost use Rattle.table_store.specs.Rows.{AreValues, IsStored, Row, filler, moved_rows, removed_rows, row_at, rows_in};
+ghost use Rattle.table_store.specs.Rows.{with_cell, with_column_at, with_row_at};
 ghost use Rattle.table_store.specs.Rows.{zero_cells};
 
 use crate::by_ids::{ByIds, has_ids, key_in};
@@ -51,7 +56,8 @@ const _: () = prove!(size_of::<TableSlot<Global>>() == 184);
 // In boxes, so that one can be taken out for a moment: two slots of one slab can't be borrowed at once.
 pub(crate) type Slots<A> = Slab<Box<TableSlot<A>, A>, A>;
 
-// Serials only rise, so each new key stands at the end. Keys of released tables may be among them: at most one more than tables stand.
+// Serials only rise, so each new key stands at the end. Keys of released tables may be among them: at most one more
+// than tables stand.
 type BySerial<A> = Vec<ListedKey, A>;
 
 /// The tables of a world, one for each set of ids.
@@ -85,7 +91,8 @@ impl<A: Allocator> Model for TableStore<A> {
 }
 
 impl<A: Allocator + Copy> TableStore<A> {
-    /// A store without tables, which hashes lists of ids with these random keys. It takes no memory before the first table.
+    /// A store without tables, which hashes lists of ids with these random keys. It takes no memory before the first
+    /// table.
     pub fn new(alloc: A, random: RandomState) -> Self
         ensures empty { result.tables ≡ [] }
         ensures unused { result.last ≡ 0 }
@@ -106,7 +113,8 @@ impl<A: Allocator + Copy> TableStore<A> {
         }
     }
 
-    /// The table of these ids, which is made where there is none. Beside each id stands how many bytes its value has, 0 to 64: 0 for a tag.
+    /// The table of these ids, which is made where there is none. Beside each id stands how many bytes its value has, 0
+    /// to 64: 0 for a tag.
     ///
     /// A serial is never given twice: past the greatest `u64`, and past 4,294,967,295 slots, it answers `Memory`.
     pub fn find_or_make(&mut self, cells: &[SizedId]) -> Result<TableKey, Memory>
@@ -126,7 +134,8 @@ impl<A: Allocator + Copy> TableStore<A> {
         put
     }
 
-    // The table of no ids, where these are none, and it was found or made last: so it mostly is where entities are made.
+    // The table of no ids, where these are none, and it was found or made last: so it mostly is where entities are
+    // made.
     #[inline(always)]
     fn bare(&self, cells: &[SizedId]) -> Option<TableKey>
         requires { (j : ℕ) → IfSome (slice_get cells.now j) (λ c. HasSize self.now c.0 c.1) }
@@ -214,7 +223,8 @@ impl<A: Allocator + Copy> TableStore<A> {
     fn follow(&self, key: TableKey, id: Id, added: Option<usize>) -> Option<TableKey>
         requires stands { IsSome (table_at self.now key) }
         requires sizes { IfSome added (λ n. HasSize self.now id n) }
-        ensures found { IfSome result (λ to. (f : Shape) → shape_at self.now key ≡ Some f → IsMade self.now (stepped f id added) to self.now) }
+        ensures found { IfSome result (λ to. (f : Shape) → shape_at self.now key ≡ Some f
+            → IsMade self.now (stepped f id added) to self.now) }
         ensures whole { IsStored self.now }
     {
         edge_end(&self.tables, &self.tables[key.slot as usize], id, added)
@@ -258,7 +268,8 @@ impl<A: Allocator + Copy> TableStore<A> {
     // Keeps an edge for the next time. Where memory is refused, the table is found by its ids again.
     fn keep_edge(&mut self, key: TableKey, id: Id, added: Option<usize>, to: TableKey)
         requires stands { IsSome (table_at self.old key) }
-        requires leads { (f : Shape) → shape_at self.old key ≡ Some f → shape_at self.old to ≡ Some (stepped f id added) }
+        requires leads { (f : Shape) → shape_at self.old key ≡ Some f
+            → shape_at self.old to ≡ Some (stepped f id added) }
         ensures { self.new ≡ self.old }
     {
         let (alloc, hashing) = (self.alloc, self.hashing);
@@ -275,7 +286,8 @@ impl<A: Allocator + Copy> TableStore<A> {
     /// Makes room for `additional` more rows in a table. After an error the store is as it was.
     pub fn reserve(&mut self, key: TableKey, additional: usize) -> Result<(), Memory>
         requires stands { IsSome (table_at self.old key) }
-        ensures tables { OnOk result ((q : TableKey) → table_at self.new q ≡ changed_at self.old key (λ t. record t { room = max t.room additional }) q) }
+        ensures tables { OnOk result ((q : TableKey) → table_at self.new q
+            ≡ changed_at self.old key (λ t. record t { room = max t.room additional }) q) }
         ensures shapes { (q : TableKey) → shape_at self.new q ≡ shape_at self.old q }
         ensures last { self.new.last ≡ self.old.last }
         ensures rows { (p : Place) → row_at self.new p ≡ row_at self.old p }
@@ -286,10 +298,12 @@ impl<A: Allocator + Copy> TableStore<A> {
         self.tables[key.slot as usize].table.reserve(additional)
     }
 
-    /// Keeps room for `room` more rows at most in a table, and gives back memory that rows left behind, as `Table::shrink_to` does.
+    /// Keeps room for `room` more rows at most in a table, and gives back memory that rows left behind, as
+    /// `Table::shrink_to` does.
     pub fn shrink_to(&mut self, key: TableKey, room: usize)
         requires stands { IsSome (table_at self.old key) }
-        ensures tables { (q : TableKey) → table_at self.new q ≡ changed_at self.old key (λ t. record t { room = min t.room room }) q }
+        ensures tables { (q : TableKey) → table_at self.new q ≡ changed_at self.old key
+            (λ t. record t { room = min t.room room }) q }
         ensures shapes { (q : TableKey) → shape_at self.new q ≡ shape_at self.old q }
         ensures rows { (p : Place) → row_at self.new p ≡ row_at self.old p }
         ensures last { self.new.last ≡ self.old.last }
@@ -331,7 +345,8 @@ fn next_key<A: Allocator>(tables: &Slots<A>, last: u128) -> Result<ListedKey, Me
     }
 }
 
-// All that is to grow for a new table, and its slot, whose number stands under the hash of its ids then, and its key last among those by serial.
+// All that is to grow for a new table, and its slot, whose number stands under the hash of its ids then, and its key
+// last among those by serial.
 fn prepare<A: Allocator + Copy>(
     alloc: A,
     tables: &mut Slots<A>,
@@ -351,7 +366,8 @@ fn prepare<A: Allocator + Copy>(
     ensures marks { (n : ℕ) → slice_index_or filled.new.items n false ≡ slice_index_or filled.old.items n false }
     ensures by_ids { KeepsSlots by_ids.old by_ids.new }
     ensures entered { OnOk result (HasSlot by_ids.new hash key.slot) }
-    ensures by_serial { MatchResult result (λ _. by_serial.new.items ≡ by_serial.old.items ++ key ∷ []) (λ _. by_serial.new.items ≡ by_serial.old.items) }
+    ensures by_serial { MatchResult result (λ _. by_serial.new.items ≡ by_serial.old.items ++ key ∷ [])
+        (λ _. by_serial.new.items ≡ by_serial.old.items) }
     ensures slot { OnOk result (HasRoomFor tables.new 1) }
     ensures serial { IfOk result (λ slot. slot.value.serial ≡ key.serial) }
     ensures table { IfOk result (λ slot. slot.value.table ≡ shaped cells.now) }
@@ -441,7 +457,8 @@ fn enter<A: Allocator>(
 ) -> Result<(), Memory>
     ensures by_ids { KeepsSlots by_ids.old by_ids.new }
     ensures entered { OnOk result (HasSlot by_ids.new hash key.slot) }
-    ensures by_serial { MatchResult result (λ _. by_serial.new.items ≡ by_serial.old.items ++ key ∷ []) (λ _. by_serial.new.items ≡ by_serial.old.items) }
+    ensures by_serial { MatchResult result (λ _. by_serial.new.items ≡ by_serial.old.items ++ key ∷ [])
+        (λ _. by_serial.new.items ≡ by_serial.old.items) }
 {
     list_growth::make_room(by_serial)?;
     by_ids.insert(hash, key.slot())?;
@@ -464,7 +481,8 @@ fn newer(keys: &[ListedKey], serial: u128) -> &[ListedKey]
 fn forget_released<A: Allocator>(by_serial: &mut BySerial<A>, tables: &Slots<A>)
     requires { IsStrictlySortedBy nat_cmp (map (λ q. q.serial) by_serial.old.items) }
     ensures few { length by_serial.new.items ≤ 2 * slab_len tables.now + 1 }
-    ensures kept { (by_serial.new.items ≡ by_serial.old.items) ⊎ (by_serial.new.items ≡ filter (is_held tables.now) by_serial.old.items) }
+    ensures kept { (by_serial.new.items ≡ by_serial.old.items) ⊎
+        (by_serial.new.items ≡ filter (is_held tables.now) by_serial.old.items) }
 {
     if by_serial.len() / 2 > tables.len() {
         by_serial.retain(|key| stands(tables, key.key()));
@@ -566,10 +584,11 @@ impl<A: Allocator> TableStore<A> {
         ensures tables { (q : TableKey) → table_at self.new q ≡ changed_at self.old key (λ t. with_row t entity) q }
         ensures shapes { (q : TableKey) → shape_at self.new q ≡ shape_at self.old q }
         ensures vacant { row_at self.old (record { table = key; row = result }) ≡ None }
-        ensures rows { (f : Shape) → shape_at self.old key ≡ Some f → (s : Place) → row_at self.new s ≡ with_row_at (row_at self.old) (record {
-          table = key;
-          row = result;
-        }) (entity, zero_cells f) s }
+        ensures rows { (f : Shape) → shape_at self.old key ≡ Some f → (s : Place)
+            → row_at self.new s ≡ with_row_at (row_at self.old) (record {
+              table = key;
+              row = result;
+            }) (entity, zero_cells f) s }
         ensures left { room_at self.new key ≡ room_at self.old key - 1 }
         ensures last { self.new.last ≡ self.old.last }
         ensures whole { IsStored self.new }
@@ -587,7 +606,8 @@ impl<A: Allocator> TableStore<A> {
         requires there { row < rows_in self.old key }
         requires data { 0 < length value.now }
         requires size { (f : Shape) → shape_at self.old key ≡ Some f → find_in id f ≡ Some (length value.now) }
-        ensures tables { (q : TableKey) → table_at self.new q ≡ changed_at self.old key (λ t. with_value t row id value.now) q }
+        ensures tables { (q : TableKey) → table_at self.new q ≡ changed_at self.old key
+            (λ t. with_value t row id value.now) q }
         ensures shapes { (q : TableKey) → shape_at self.new q ≡ shape_at self.old q }
         ensures rows { (v : Row) → row_at self.old (record {
           table = key;
@@ -604,12 +624,15 @@ impl<A: Allocator> TableStore<A> {
             .set_value(row, id, value);
     }
 
-    /// Overwrites the values of an id with data in all rows of a table, with as many bytes, those of one row after another.
+    /// Overwrites the values of an id with data in all rows of a table, with as many bytes, those of one row after
+    /// another.
     pub fn set_column(&mut self, key: TableKey, id: Id, bytes: &[u8])
         requires { AreValues self.old key id bytes.now }
-        ensures tables { (q : TableKey) → table_at self.new q ≡ changed_at self.old key (λ t. with_column t id bytes.now) q }
+        ensures tables { (q : TableKey) → table_at self.new q ≡ changed_at self.old key
+            (λ t. with_column t id bytes.now) q }
         ensures shapes { (q : TableKey) → shape_at self.new q ≡ shape_at self.old q }
-        ensures rows { (n : ℕ) → size_in self.old key id ≡ Some n → (p : Place) → row_at self.new p ≡ with_column_at (row_at self.old) key id n bytes.now p }
+        ensures rows { (n : ℕ) → size_in self.old key id ≡ Some n → (p : Place)
+            → row_at self.new p ≡ with_column_at (row_at self.old) key id n bytes.now p }
         ensures last { self.new.last ≡ self.old.last }
         ensures whole { IsStored self.new }
     {
@@ -650,8 +673,14 @@ impl<A: Allocator> TableStore<A> {
             → (q : TableKey) → table_at self.new q ≡ moved_at self.old from to s row q }
         ensures shapes { (q : TableKey) → shape_at self.new q ≡ shape_at self.old q }
         ensures vacant { row_at self.old (record { table = to; row = result.0 }) ≡ None }
-        ensures rows { (v : Row) (f : Shape) → row_at self.old (record { table = from; row = row }) ≡ Some v → shape_at self.old to ≡ Some f
-            → (s : Place) → row_at self.new s ≡ moved_rows self.old (record { table = from; row = row }) v (record { table = to; row = result.0 }) f s }
+        ensures rows { (v : Row) (f : Shape) → row_at self.old (record {
+          table = from;
+          row = row;
+        }) ≡ Some v → shape_at self.old to ≡ Some f
+            → (s : Place) → row_at self.new s ≡ moved_rows self.old (record {
+              table = from;
+              row = row;
+            }) v (record { table = to; row = result.0 }) f s }
         ensures filled { result.1 ≡ option_map (λ r. r.0) (filler self.old (record { table = from; row = row })) }
         ensures last { self.new.last ≡ self.old.last }
         ensures whole { IsStored self.new }
@@ -676,8 +705,8 @@ impl<A: Allocator> TableStore<A> {
         Since::new(&self.tables, newer(self.by_serial.as_slice(), serial))
     }
 
-    /// The keys that the store remembers, by rising serial: those of the tables that stand, and some of tables that were released, at most one more
-    /// than tables stand.
+    /// The keys that the store remembers, by rising serial: those of the tables that stand, and some of tables that
+    /// were released, at most one more than tables stand.
     pub fn remembered(&self) -> &[ListedKey]
         ensures listed { (q : TableKey) → IsSome (table_at self.now q) → Contains result.now q }
         ensures rising { IsStrictlySortedBy nat_cmp (map (λ q. q.serial) result.now) }

@@ -1,4 +1,5 @@
-//! Blocks, tables, the store and its indexes, searches, traits and fields: each call that takes memory, worked cases, and what takes none.
+//! Blocks, tables, the store and its indexes, searches, traits and fields: each call that takes memory, worked cases,
+//! and what takes none.
 #![tactic(auto)]
 
 #[cfg(test)]

@@ -12,7 +12,8 @@ use ecs_id::Id;
 use query_model::query::{Ref, Term};
 use std::alloc::{AllocError, Allocator};
 
-/// That a term leads from the entity of a variable to that of one after it, by a pair of which one is the holder and the other the target.
+/// That a term leads from the entity of a variable to that of one after it, by a pair of which one is the holder and
+/// the other the target.
 #[derive(Drop)]
 pub struct LinkStep {
     pub(crate) from: usize,
@@ -77,7 +78,8 @@ pub(crate) fn link_steps<A: Allocator>(
     Ok(steps)
 }
 
-/// Adds how a term leads from one variable to another, if it asks the entity of one itself for a pair with that of the other.
+/// Adds how a term leads from one variable to another, if it asks the entity of one itself for a pair with that of the
+/// other.
 fn push_step<A: Allocator>(term: &Term, steps: &mut Vec<LinkStep, A>) -> Result<(), AllocError>
     ensures { OnOk result (steps.new.items ≡ steps.old.items ++ steps_of term.now) }
 {

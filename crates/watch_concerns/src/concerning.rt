@@ -1,7 +1,8 @@
 //! Which ids concern a query, and which terms ask `$this`.
 
 ghost use Rattle.std.specs.Prelude.{◌≡◌};
-ghost use Rattle.watch_concerns.specs.Concerns.{is_asked_by_all, is_pair_of, leads_up, may_be, may_match, term_concerns};
+ghost use Rattle.watch_concerns.specs.Concerns.{is_asked_by_all, is_pair_of, leads_up, may_be, may_match};
+ghost use Rattle.watch_concerns.specs.Concerns.{term_concerns};
 ghost use Rattle.watch_concerns.specs.Others.{asks_this_stored, says_how_far};
 
 use ecs_id::Id;

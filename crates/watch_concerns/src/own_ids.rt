@@ -6,7 +6,8 @@ ghost use Rattle.ecs_id.specs.Id.{IsIndex, plain};
 ghost use Rattle.ecs_model.specs.Links.{is_held};
 ghost use Rattle.query_check.specs.Seen.{seen_item, seen_piece};
 ghost use Rattle.watch_concerns.specs.Concerns.{may_match};
-ghost use Rattle.watch_concerns.specs.OwnIds.{item_is_met, item_lacks, lacks, lacks_from, meets, meets_from, term_is_met};
+ghost use Rattle.watch_concerns.specs.OwnIds.{item_is_met, item_lacks, lacks, lacks_from, meets, meets_from};
+ghost use Rattle.watch_concerns.specs.OwnIds.{term_is_met};
 
 use crate::concerning::may_match;
 use ecs_id::Id;
@@ -15,7 +16,8 @@ use query_check::{Item, Piece, Query};
 use query_model::query::{Ref, Term};
 use std::alloc::Allocator;
 
-/// Whether an entity with these ids lacks what a term in front of all groups asks of `$this` itself. Then it is `$this` of no row of the query.
+/// Whether an entity with these ids lacks what a term in front of all groups asks of `$this` itself. Then it is `$this`
+/// of no row of the query.
 ///
 /// Takes no memory, and time in the terms and the ids.
 #[tactic(auto, unfolding(crate::specs::OwnIds::lacks))]
@@ -58,8 +60,9 @@ pub(crate) fn any_matches(term: &Term, ids: &[Id]) -> bool
         .any(|id| may_match(term.component, term.target, *id))
 }
 
-/// Whether an entity with these ids meets all that a query asks, by these ids alone: the items outside all groups, while it lacks what some item
-/// of each group asks. Then it is `$this` of a row, if it lives. Where an item asks somebody else, or for a variable, that isn't told.
+/// Whether an entity with these ids meets all that a query asks, by these ids alone: the items outside all groups,
+/// while it lacks what some item of each group asks. Then it is `$this` of a row, if it lives. Where an item asks
+/// somebody else, or for a variable, that isn't told.
 ///
 /// Takes no memory, and time in the terms and the ids.
 #[tactic(auto, unfolding(crate::specs::OwnIds::meets))]

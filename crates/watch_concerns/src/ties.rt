@@ -12,9 +12,10 @@ use query_check::{Item, Query};
 use query_model::query::Term;
 use std::alloc::Allocator;
 
-/// Whether each term of a query asks `$this` or its ancestors, or the entity of a variable itself with whom `$this` itself holds a pair: an item
-/// directly in the level that the variable belongs to holds only where that is so. Then a fact of somebody else moves only those in or out of the
-/// query's rows who hold a pair with that as the target, besides those below it.
+/// Whether each term of a query asks `$this` or its ancestors, or the entity of a variable itself with whom `$this`
+/// itself holds a pair: an item directly in the level that the variable belongs to holds only where that is so. Then a
+/// fact of somebody else moves only those in or out of the query's rows who hold a pair with that as the target,
+/// besides those below it.
 ///
 /// Takes no memory, and time in the square of the pieces at most.
 #[tactic(auto, unfolding(crate::specs::Tied::is_tied))]

@@ -6,7 +6,8 @@ ghost use Rattle.std.specs.List.Sorted.{IsStrictlySortedBy};
 ghost use Rattle.std.specs.Option.{option_copied};
 ghost use Rattle.std.specs.Ordering.{nat_cmp};
 ghost use Rattle.ecs_model.specs.World.{key_cmp, key_eq};
-ghost use Rattle.watch_concerns.specs.Since.{IsAfter, dead_text, entity_before, entity_text_before, held_before, id_text_before, index_text_before};
+ghost use Rattle.watch_concerns.specs.Since.{IsAfter, dead_text, entity_before, entity_text_before, held_before};
+ghost use Rattle.watch_concerns.specs.Since.{id_text_before, index_text_before};
 
 use crate::text::Text;
 use crate::texts::{entity_now, entity_text, handle_text};

@@ -95,7 +95,8 @@ pub(crate) fn push_event<A: Allocator>(
     Ok(())
 }
 
-/// Writes the line of an event: its word, the name of the stored query, the entity, and the fact with the value that was set.
+/// Writes the line of an event: its word, the name of the stored query, the entity, and the fact with the value that
+/// was set.
 ///
 /// Fails where memory is refused, and then a front of the line may be written.
 pub fn write_event<A: Allocator>(event: &Event<A>, out: &mut Vec<u8, A>) -> Result<(), AllocError>

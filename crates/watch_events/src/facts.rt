@@ -21,8 +21,8 @@ use ecs_world::{Changes, World};
 use query_model::query::Term;
 use std::alloc::{AllocError, Allocator};
 
-/// Tells an observer of the facts that came, or of those that were set, by the world after the command: each that its term matches,
-/// and whose entity it doesn't pass over.
+/// Tells an observer of the facts that came, or of those that were set, by the world after the command: each that its
+/// term matches, and whose entity it doesn't pass over.
 pub(crate) fn tell_facts<A: Allocator + Copy>(
     alloc: A,
     world: &World<A>,
@@ -88,7 +88,8 @@ fn fact_event<A: Allocator + Copy>(
     kind: EventKind,
     fact: FactKey,
 ) -> Result<Event<A>, AllocError>
-    ensures { IfOk result (λ event. event ≡ fact_event name.now kind world.now.state (told_value world.now.state kind) fact) }
+    ensures { IfOk result (λ event. event ≡ fact_event name.now kind world.now.state
+        (told_value world.now.state kind) fact) }
 {
     let entity = entity_now(world, fact.entity());
     Ok(Event {

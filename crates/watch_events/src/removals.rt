@@ -19,7 +19,8 @@ use ecs_world::{Changes, World};
 use query_model::query::Term;
 use std::alloc::{AllocError, Allocator};
 
-/// Tells an observer of the facts that went: each that its term matches, and whose entity it didn't pass over before the command.
+/// Tells an observer of the facts that went: each that its term matches, and whose entity it didn't pass over before
+/// the command.
 pub(crate) fn tell_removals<A: Allocator + Copy>(
     alloc: A,
     world: &World<A>,

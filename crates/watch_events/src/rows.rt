@@ -22,7 +22,8 @@ pub struct Moves<'m> {
     pub entered: &'m [u32],
 }
 
-/// Puts what a monitor is told behind other events, where it is known who has left its rows and who has entered them. Those who left come first.
+/// Puts what a monitor is told behind other events, where it is known who has left its rows and who has entered them.
+/// Those who left come first.
 ///
 /// Fails where memory is refused, and then the first of these may stand behind the others.
 pub fn tell_moves<A: Allocator + Copy>(
@@ -53,8 +54,10 @@ fn tell_each_left<A: Allocator + Copy>(
     events: &mut Vec<Event<A>, A>,
 ) -> Result<(), AllocError>
     requires { IsAfter world.now.state changes.now }
-    ensures told { OnOk result (events.new.items ≡ events.old.items ++ map (left_event world.now.state changes.now name.now) left.now) }
-    ensures front { OnErr result (StopsWithin events.old.items events.new.items (map (left_event world.now.state changes.now name.now) left.now)) }
+    ensures told { OnOk result (events.new.items ≡ events.old.items
+        ++ map (left_event world.now.state changes.now name.now) left.now) }
+    ensures front { OnErr result (StopsWithin events.old.items events.new.items
+        (map (left_event world.now.state changes.now name.now) left.now)) }
 {
     for index in left {
         push_left(alloc, world, changes, name, *index, events)?;
@@ -70,8 +73,10 @@ fn tell_each_entered<A: Allocator + Copy>(
     entered: &[u32],
     events: &mut Vec<Event<A>, A>,
 ) -> Result<(), AllocError>
-    ensures told { OnOk result (events.new.items ≡ events.old.items ++ map (entity_event name.now Entered world.now.state) entered.now) }
-    ensures front { OnErr result (StopsWithin events.old.items events.new.items (map (entity_event name.now Entered world.now.state) entered.now)) }
+    ensures told { OnOk result (events.new.items ≡ events.old.items
+        ++ map (entity_event name.now Entered world.now.state) entered.now) }
+    ensures front { OnErr result (StopsWithin events.old.items events.new.items
+        (map (entity_event name.now Entered world.now.state) entered.now)) }
 {
     for index in entered {
         push_entered(alloc, world, name, *index, events)?;
@@ -91,7 +96,8 @@ fn push_left<A: Allocator + Copy>(
     events: &mut Vec<Event<A>, A>,
 ) -> Result<(), AllocError>
     requires { IsAfter world.now.state changes.now }
-    ensures told { OnOk result (events.new.items ≡ events.old.items ++ left_event world.now.state changes.now name.now index ∷ []) }
+    ensures told { OnOk result (events.new.items ≡ events.old.items
+        ++ left_event world.now.state changes.now name.now index ∷ []) }
     ensures kept { OnErr result (events.new.items ≡ events.old.items) }
 {
     let watch = Text::from_slice(alloc, name)?;
@@ -119,7 +125,8 @@ fn push_entered<A: Allocator + Copy>(
     index: u32,
     events: &mut Vec<Event<A>, A>,
 ) -> Result<(), AllocError>
-    ensures told { OnOk result (events.new.items ≡ events.old.items ++ entity_event name.now Entered world.now.state index ∷ []) }
+    ensures told { OnOk result (events.new.items ≡ events.old.items
+        ++ entity_event name.now Entered world.now.state index ∷ []) }
     ensures kept { OnErr result (events.new.items ≡ events.old.items) }
 {
     let entity = entity_now(world, index);

@@ -21,9 +21,11 @@ pub struct Audience<'q, A: Allocator> {
     pub query: &'q Query<A>,
 }
 
-/// Puts what an observer is told of a command behind other events, by the world after the command. It isn't for monitors, which `tell_moves` tells.
+/// Puts what an observer is told of a command behind other events, by the world after the command. It isn't for
+/// monitors, which `tell_moves` tells.
 ///
-/// An observer is judged by its one term before the world is read. Fails where memory is refused, and then the first of these may stand behind the others.
+/// An observer is judged by its one term before the world is read. Fails where memory is refused, and then the first of
+/// these may stand behind the others.
 pub fn tell<A: Allocator + Copy>(
     alloc: A,
     world: &World<A>,
@@ -34,9 +36,11 @@ pub fn tell<A: Allocator + Copy>(
     requires after { IsAfter world.now.state changes.now }
     requires observes { audience.kind ≢ Monitor }
     ensures told { OnOk result (events.new.items ≡ events.old.items
-        ++ told_since world.now.state changes.now (audience.entry.name).now audience.entry.kind (audience.entry.query).now []) }
+        ++ told_since world.now.state changes.now (audience.entry.name).now audience.entry.kind
+        (audience.entry.query).now []) }
     ensures front { OnErr result (StopsWithin events.old.items events.new.items
-        (told_since world.now.state changes.now (audience.entry.name).now audience.entry.kind (audience.entry.query).now [])) }
+        (told_since world.now.state changes.now (audience.entry.name).now audience.entry.kind
+        (audience.entry.query).now [])) }
 {
     match audience.kind {
         StoredKind::Kept => Ok(()),

@@ -37,7 +37,8 @@ pub(crate) fn gather<A: Allocator + Copy>(
 ) -> Result<(), AllocError>
     requires empty { numbers.old.items ≡ [] }
     ensures { OnOk result (numbers.new.items ≡ flat_map (listed index.now)
-        (happening happened.entry.lives (happened.entry.came).now (happened.entry.went).now (happened.entry.written).now)) }
+        (happening happened.entry.lives (happened.entry.came).now (happened.entry.went).now
+        (happened.entry.written).now)) }
 {
     push_lives(index, happened.lives, numbers)?;
     push_moved(index, happened.came, numbers)?;
@@ -53,7 +54,8 @@ fn push_lives<A: Allocator + Copy>(
     lives: bool,
     numbers: &mut ShortNumbers<A>,
 ) -> Result<(), AllocError>
-    ensures { OnOk result (numbers.new.items ≡ numbers.old.items ++ flat_map (listed index.now) (if lives then Life ∷ [] else [])) }
+    ensures { OnOk result (numbers.new.items ≡ numbers.old.items
+        ++ flat_map (listed index.now) (if lives then Life ∷ [] else [])) }
 {
     if lives {
         index.push_listed(&Occasion::Life, numbers)?;
@@ -68,7 +70,8 @@ fn push_moved<A: Allocator + Copy>(
     facts: &[FactKey],
     numbers: &mut ShortNumbers<A>,
 ) -> Result<(), AllocError>
-    ensures { OnOk result (numbers.new.items ≡ numbers.old.items ++ flat_map (λ k. flat_map (listed index.now) (moved k.1)) facts.now) }
+    ensures { OnOk result (numbers.new.items ≡ numbers.old.items
+        ++ flat_map (λ k. flat_map (listed index.now) (moved k.1)) facts.now) }
 {
     for fact in facts {
         push_of_all(index, fact.id(), numbers)?;
@@ -84,7 +87,8 @@ fn push_written<A: Allocator + Copy>(
     facts: &[FactKey],
     numbers: &mut ShortNumbers<A>,
 ) -> Result<(), AllocError>
-    ensures { OnOk result (numbers.new.items ≡ numbers.old.items ++ flat_map (λ k. flat_map (listed index.now) (facts_of IsWritten k.1)) facts.now) }
+    ensures { OnOk result (numbers.new.items ≡ numbers.old.items
+        ++ flat_map (λ k. flat_map (listed index.now) (facts_of IsWritten k.1)) facts.now) }
 {
     for fact in facts {
         push_fact(index, Way::IsWritten, fact.id(), numbers)?;
@@ -143,7 +147,10 @@ fn push_pattern<A: Allocator + Copy>(
     second: Option<Part>,
     numbers: &mut ShortNumbers<A>,
 ) -> Result<(), AllocError>
-    ensures { OnOk result (numbers.new.items ≡ numbers.old.items ++ listed index.now (Fact way (record { first = first; second = second }))) }
+    ensures { OnOk result (numbers.new.items ≡ numbers.old.items ++ listed index.now (Fact way (record {
+      first = first;
+      second = second;
+    }))) }
 {
     index.push_listed(&Occasion::Fact(way, Pattern { first, second }), numbers)
 }

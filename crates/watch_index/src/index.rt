@@ -39,7 +39,8 @@ impl<A: Allocator> Model for WatchIndex<A> {
 }
 
 impl<A: Allocator + Copy> WatchIndex<A> {
-    /// An index without stored queries, which hashes what they look out for with these random keys. It takes no memory before the first.
+    /// An index without stored queries, which hashes what they look out for with these random keys. It takes no memory
+    /// before the first.
     pub fn new(alloc: A, random: RandomState) -> Self
         ensures { result ≡ [] }
     {
@@ -65,7 +66,8 @@ impl<A: Allocator + Copy> WatchIndex<A> {
         Ok(())
     }
 
-    /// Puts into an empty list the numbers of the stored queries that look out for something that has happened, in ascending order.
+    /// Puts into an empty list the numbers of the stored queries that look out for something that has happened, in
+    /// ascending order.
     ///
     /// The list stays where it is, as a move of it would take more than all else where nobody is led to.
     #[inline(always)]
@@ -77,7 +79,8 @@ impl<A: Allocator + Copy> WatchIndex<A> {
         requires empty { numbers.old.items ≡ [] }
         ensures ascend { OnOk result (IsStrictlyIncreasing numbers.new.items) }
         ensures exact { OnOk result ((n : ℕ) → Contains numbers.new.items n
-            ↔ Contains (flat_map (listed self.now) (happening happened.entry.lives (happened.entry.came).now (happened.entry.went).now
+            ↔ Contains (flat_map (listed self.now) (happening happened.entry.lives (happened.entry.came).now
+            (happened.entry.went).now
             (happened.entry.written).now)) n) }
     {
         gather(self, happened, numbers)?;

@@ -52,7 +52,8 @@ impl Marks {
     }
 }
 
-/// The mark of an occasion. Indexes that follow one another are spread over all marks, and so are most that are chosen otherwise.
+/// The mark of an occasion. Indexes that follow one another are spread over all marks, and so are most that are chosen
+/// otherwise.
 #[inline(always)]
 fn mark_of(occasion: &Occasion) -> u32
     ensures mark { result ≡ mark_of occasion.now }

@@ -13,11 +13,13 @@
 //! let dropped = order.remove("moving");
 //! ```
 
-ghost use Rattle.std.specs.Prelude.{◌≡◌, ◌↔◌, ◌<◌, ◌++◌, ◌∷◌, [], All, IfNone, IfOk, IfSome, IsSome, None, OnOk, Some, is_some, length, option_map, slice_get};
+ghost use Rattle.std.specs.Prelude.{◌≡◌, ◌↔◌, ◌<◌, ◌++◌, ◌∷◌, [], All, IfNone, IfOk, IfSome, IsSome, None, OnOk, Some};
+ghost use Rattle.std.specs.Prelude.{is_some, length, option_map, slice_get};
 ghost use Rattle.std.specs.Map.{lookup, remove_entry};
 ghost use Rattle.std.specs.Option.{option_copied};
 ghost use Rattle.std.specs.String.{string_bytes};
-ghost use Rattle.watch_index.specs.NameOrder.{HasRoom, IsInOrder, IsPlaceOf, IsReady, IsTakenOut, StandsAt, entries_of, is_key, number_in};
+ghost use Rattle.watch_index.specs.NameOrder.{HasRoom, IsInOrder, IsPlaceOf, IsReady, IsTakenOut, StandsAt, entries_of};
+ghost use Rattle.watch_index.specs.NameOrder.{is_key, number_in};
 
 use indexmap::IndexMap;
 use secret_hashing::Hashing;
@@ -35,11 +37,12 @@ pub struct Named<V, A: Allocator> {
 
 /// Values in the order in which they were put in, each found by its name.
 ///
-/// A look-up takes the time of a hash of the name and of a search by halves. A value that is taken out moves no other: of each
-/// behind it a pointer moves.
+/// A look-up takes the time of a hash of the name and of a search by halves. A value that is taken out moves no other:
+/// of each behind it a pointer moves.
 #[derive(Drop)]
 pub struct NameOrder<V, A: Allocator> {
-    /// In boxes, so that a removal moves none of those behind it but its pointer. Values may be written, and nothing else.
+    /// In boxes, so that a removal moves none of those behind it but its pointer. Values may be written, and nothing
+    /// else.
     pub made: Vec<Box<Named<V, A>, A>, A>,
     // the number of each by its name
     numbers: IndexMap<String<A>, u64, Hashing, A>,
@@ -189,7 +192,8 @@ impl<V, A: Allocator> NameOrder<V, A> {
     pub fn remove(&mut self, name: &str) -> Option<Box<Named<V, A>, A>>
         requires order { IsInOrder self.old }
         ensures value { option_map (λ b. b.value.value) result ≡ lookup (is_key name.now) (entries_of self.old) }
-        ensures entries { IfSome result (λ _. entries_of self.new ≡ remove_entry (is_key name.now) (entries_of self.old)) }
+        ensures entries { IfSome result (λ _. entries_of self.new ≡ remove_entry (is_key name.now)
+            (entries_of self.old)) }
         ensures place { IfSome result (IsTakenOut self.old.made.items self.new.made.items) }
         ensures none { IfNone result (self.new ≡ self.old) }
         ensures order { IsInOrder self.new }

@@ -13,7 +13,8 @@
 //! for place in places.as_slice() { .. }
 //! ```
 
-ghost use Rattle.std.specs.Prelude.{◌≡◌, ◌<◌, ◌++◌, ◌∷◌, [], All, IfNone, IfOk, IfSome, None, OnErr, OnOk, length, option_map};
+ghost use Rattle.std.specs.Prelude.{◌≡◌, ◌<◌, ◌++◌, ◌∷◌, [], All, IfNone, IfOk, IfSome, None, OnErr, OnOk, length};
+ghost use Rattle.std.specs.Prelude.{option_map};
 ghost use Rattle.std.specs.List.Sorted.{IsStrictlyIncreasing};
 ghost use Rattle.std.specs.Map.{lookup, remove_entry};
 ghost use Rattle.std.specs.String.{string_bytes};
@@ -56,7 +57,8 @@ impl<V, A: Allocator + Copy> WatchOrder<V, A> {
         }
     }
 
-    /// Makes a value ready to be put behind the others, and lists it for what it looks out for. Then it is put or forgotten.
+    /// Makes a value ready to be put behind the others, and lists it for what it looks out for. Then it is put or
+    /// forgotten.
     ///
     /// Fails where memory is refused, and then nothing has changed.
     pub fn prepare(
@@ -80,7 +82,8 @@ impl<V, A: Allocator + Copy> WatchOrder<V, A> {
 
     /// Puts into an empty list the places of the values that look out for something that has happened, in order.
     ///
-    /// Takes time in what has happened and in the values that are led to, whatever else is stored. Fails where memory is refused.
+    /// Takes time in what has happened and in the values that are led to, whatever else is stored. Fails where memory
+    /// is refused.
     pub fn led(
         &self,
         alloc: A,
@@ -92,7 +95,8 @@ impl<V, A: Allocator + Copy> WatchOrder<V, A> {
         ensures ascend { OnOk result (IsStrictlyIncreasing places.new.items) }
         ensures within { OnOk result (All (λ i. i < length self.now.order.made.items) places.new.items) }
         ensures led { OnOk result (AreLed self.now.order.made.items
-            (happening happened.entry.lives (happened.entry.came).now (happened.entry.went).now (happened.entry.written).now) places.new.items) }
+            (happening happened.entry.lives (happened.entry.came).now (happened.entry.went).now
+            (happened.entry.written).now) places.new.items) }
     {
         let mut numbers = ShortNumbers::new();
         self.index.led(happened, &mut numbers)?;
@@ -100,7 +104,8 @@ impl<V, A: Allocator + Copy> WatchOrder<V, A> {
         Ok(())
     }
 
-    /// Puts into an empty list where values with these numbers stand. Numbers rise with places, so the places of ascending numbers ascend.
+    /// Puts into an empty list where values with these numbers stand. Numbers rise with places, so the places of
+    /// ascending numbers ascend.
     fn push_places(
         &self,
         alloc: A,
@@ -138,7 +143,8 @@ impl<V, A: Allocator> WatchOrder<V, A> {
     pub fn remove(&mut self, name: &str) -> Option<Boxed<V, A>>
         requires watched { IsWatched self.old }
         ensures value { option_map (λ b. b.value.value) result ≡ lookup (is_key name.now) (entries_of self.old.order) }
-        ensures entries { IfSome result (λ _. entries_of self.new.order ≡ remove_entry (is_key name.now) (entries_of self.old.order)) }
+        ensures entries { IfSome result (λ _. entries_of self.new.order
+            ≡ remove_entry (is_key name.now) (entries_of self.old.order)) }
         ensures place { IfSome result (IsTakenOut self.old.order.made.items self.new.order.made.items) }
         ensures none { IfNone result (self.new ≡ self.old) }
         ensures watched { IsWatched self.new }

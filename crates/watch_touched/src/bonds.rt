@@ -14,7 +14,8 @@ pub struct Bonds {
     pub anchored: bool,
     /// Whether it is tied: a fact of somebody else moves only those who hold a pair with that, and those below it.
     pub tied: bool,
-    /// Whether it is linked: a fact of somebody else moves only those who are linked with that, from pair to pair, and those below it.
+    /// Whether it is linked: a fact of somebody else moves only those who are linked with that, from pair to pair, and
+    /// those below it.
     pub linked: bool,
 }
 

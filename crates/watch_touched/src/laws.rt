@@ -1,8 +1,10 @@
 //! What is proved of the definitions alone: each function's contract is a law, and its body does nothing.
 
-ghost use Rattle.watch_touched.specs.Laws.{OthersThanMovingStay, OthersThanRolesStay, QueriesMatchedBefore, ShowsWorldBefore, UnconcernedQueriesMatchOn};
+ghost use Rattle.watch_touched.specs.Laws.{OthersThanMovingStay, OthersThanRolesStay, QueriesMatchedBefore};
+ghost use Rattle.watch_touched.specs.Laws.{ShowsWorldBefore, UnconcernedQueriesMatchOn};
 
-/// Law: by the world after a command and what has changed, the same entities lived before, with the same ids, as in the world before.
+/// Law: by the world after a command and what has changed, the same entities lived before, with the same ids, as in the
+/// world before.
 pub fn view_before_shows_the_world_before()
     ensures { ShowsWorldBefore }
 {}
@@ -22,8 +24,9 @@ pub fn others_than_moving_stay()
     ensures { OthersThanMovingStay }
 {}
 
-/// Law: of a linked query all stay whose own facts neither came nor went, from whom no terms lead to somebody of whom a fact came or went that is asked
-/// of him as another variable, and who are below nobody whose facts concern those below.
+/// Law: of a linked query all stay whose own facts neither came nor went, from whom no terms lead to somebody of whom a
+/// fact came or went that is asked of him as another variable, and who are below nobody whose facts concern those
+/// below.
 pub fn others_than_those_who_may_stand_stay()
     ensures { OthersThanRolesStay }
 {}

@@ -4,7 +4,8 @@ ghost use Rattle.std.specs.Prelude.{◌≡◌, ◌==◌, ◌&&◌, ◌∷◌, []
 ghost use Rattle.std.specs.List.{list_all, list_any};
 ghost use Rattle.component_index.specs.Patterns.{matches};
 ghost use Rattle.ecs_model.specs.World.{WorldState};
-ghost use Rattle.watch_touched.specs.Leaning.{Adds, HasAllBelow, HoldAll, HoldTheirs, is_sought, leaning, leans, pairs_to, standing_in};
+ghost use Rattle.watch_touched.specs.Leaning.{Adds, HasAllBelow, HoldAll, HoldTheirs, is_sought, leaning, leans};
+ghost use Rattle.watch_touched.specs.Leaning.{pairs_to, standing_in};
 
 use crate::sought::{Sought, is_sought};
 use component_index::{ListedKey, Part, Pattern};
@@ -16,13 +17,15 @@ use std::alloc::{AllocError, Allocator};
 use table_store::TableStore;
 use watch_asked::AskedQuery;
 
-/// How many entities are found at most, and how many are looked at for one of them: if there are more, all rows are found in less time.
+/// How many entities are found at most, and how many are looked at for one of them: if there are more, all rows are
+/// found in less time.
 pub(crate) const MOST: usize = 64;
 
 /// How many tables are gone through for one of them. Most may be empty.
 pub(crate) const MOST_TABLES: usize = 256;
 
-/// Adds those who lean on one of these entities by a pair that concerns a query so. False, where these may be too many: then not all are added.
+/// Adds those who lean on one of these entities by a pair that concerns a query so. False, where these may be too many:
+/// then not all are added.
 pub(crate) fn push_leaning_on_all<A: Allocator + Copy, B: Allocator>(
     alloc: A,
     query: &AskedQuery<'_, B>,
@@ -31,7 +34,8 @@ pub(crate) fn push_leaning_on_all<A: Allocator + Copy, B: Allocator>(
     targets: &[u32],
     found: &mut ShortList<A>,
 ) -> Result<bool, AllocError>
-    ensures { IfOk result (λ done. done ≡ true → Adds (flat_map (leaning (is_sought sought query.now) world.now.state) targets.now) found.old.items
+    ensures { IfOk result (λ done. done ≡ true → Adds (flat_map
+        (leaning (is_sought sought query.now) world.now.state) targets.now) found.old.items
         found.new.items) }
 {
     if targets.len() > MOST {
@@ -53,7 +57,8 @@ pub(crate) fn push_all_below<A: Allocator + Copy, B: Allocator>(
     world: &World<A>,
     found: &mut ShortList<A>,
 ) -> Result<bool, AllocError>
-    ensures { IfOk result (λ done. done ≡ true → HasAllBelow (is_sought sought query.now) world.now.state found.old.items found.new.items) }
+    ensures { IfOk result (λ done. done ≡ true → HasAllBelow (is_sought sought query.now) world.now.state
+        found.old.items found.new.items) }
 {
     for next in 0..MOST {
         if next >= found.len() {
@@ -76,7 +81,8 @@ pub(crate) fn push_leaning<A: Allocator + Copy, B: Allocator>(
     target: u32,
     found: &mut ShortList<A>,
 ) -> Result<bool, AllocError>
-    ensures { IfOk result (λ done. done ≡ true → Adds (leaning (is_sought sought query.now) world.now.state target) found.old.items found.new.items) }
+    ensures { IfOk result (λ done. done ≡ true → Adds (leaning (is_sought sought query.now) world.now.state target)
+        found.old.items found.new.items) }
 {
     let links = world.links();
     let store = links.tables().store();
@@ -94,7 +100,8 @@ pub(crate) fn push_leaning<A: Allocator + Copy, B: Allocator>(
     Ok(found.len() <= MOST)
 }
 
-/// Adds those in these tables who lean on an entity. All in a table hold the same ids. False, where more are looked at than few, and then not all are added.
+/// Adds those in these tables who lean on an entity. All in a table hold the same ids. False, where more are looked at
+/// than few, and then not all are added.
 fn push_from_tables<A: Allocator + Copy, B: Allocator>(
     alloc: A,
     query: &AskedQuery<'_, B>,
@@ -105,7 +112,8 @@ fn push_from_tables<A: Allocator + Copy, B: Allocator>(
     found: &mut ShortList<A>,
 ) -> Result<bool, AllocError>
     ensures { IfOk result (λ done. done ≡ true → (w : WorldState) → HoldTheirs w store.now
-        → Adds (filter (leans (is_sought sought query.now) w target) (flat_map (standing_in store.now) tables.now)) found.old.items found.new.items) }
+        → Adds (filter (leans (is_sought sought query.now) w target) (flat_map (standing_in store.now) tables.now))
+        found.old.items found.new.items) }
 {
     let mut free = MOST;
     'tables: for listed in tables {
@@ -136,7 +144,8 @@ fn push_alike<A: Allocator + Copy, B: Allocator>(
     found: &mut ShortList<A>,
 ) -> Result<(), AllocError>
     ensures { OnOk result ((w : WorldState) → HoldAll w ids.now (map (λ e. e.index) entities.now)
-        → Adds (filter (leans (is_sought sought query.now) w target) (map (λ e. e.index) entities.now)) found.old.items found.new.items) }
+        → Adds (filter (leans (is_sought sought query.now) w target) (map (λ e. e.index) entities.now)) found.old.items
+        found.new.items) }
 {
     // who is there already needn't be judged
     if are_among(found.as_slice(), entities) {

@@ -1,6 +1,7 @@
 //! Who may have moved in or out of a query's rows, where few may.
 
-ghost use Rattle.std.specs.Prelude.{◌≡◌, ◌↔◌, ◌++◌, ◌∷◌, ◌==◌, ◌≤◌, ◌&&◌, ◌||◌, [], ℕ, Contains, true, filter, flat_map, length, not, IfNone, IfOk, IfSome};
+ghost use Rattle.std.specs.Prelude.{◌≡◌, ◌↔◌, ◌++◌, ◌∷◌, ◌==◌, ◌≤◌, ◌&&◌, ◌||◌, [], ℕ, Contains, true, filter};
+ghost use Rattle.std.specs.Prelude.{flat_map, length, not, IfNone, IfOk, IfSome};
 ghost use Rattle.std.specs.Prelude.{OnOk, false, if◌then◌else◌};
 ghost use Rattle.std.specs.List.{list_any};
 ghost use Rattle.std.specs.List.Sorted.{IsStrictlyIncreasing};
@@ -15,7 +16,8 @@ ghost use Rattle.watch_concerns.specs.Linked.{is_linked};
 ghost use Rattle.watch_concerns.specs.Others.{concerns_below, concerns_others};
 ghost use Rattle.watch_touched.specs.Concerned.{has_births_or_deaths, is_concerned};
 ghost use Rattle.watch_touched.specs.Leaning.{Adds, HasAllBelow, concerns_beyond, leaning, moves_by};
-ghost use Rattle.watch_touched.specs.Moving.{AreAllMoved, are_holders, entities_by, entities_of, finds_moving, may_be_this, most_moving, told_by_ids};
+ghost use Rattle.watch_touched.specs.Moving.{AreAllMoved, are_holders, entities_by, entities_of, finds_moving};
+ghost use Rattle.watch_touched.specs.Moving.{may_be_this, most_moving, told_by_ids};
 ghost use Rattle.watch_touched.specs.declared.moving.Moved.TheVariants.{Few, Nobody, Unknown};
 ghost use Rattle.watch_concerns.specs.Since.{IsAfter};
 
@@ -43,12 +45,12 @@ pub enum Moved {
     Unknown,
 }
 
-/// Who may have moved in or out of a query's rows by a command, if it concerns the query. These are put into a list, in which nobody is yet. All others are in
-/// the rows or out of them as before.
+/// Who may have moved in or out of a query's rows by a command, if it concerns the query. These are put into a list, in
+/// which nobody is yet. All others are in the rows or out of them as before.
 ///
-/// Unknown, where that can't be told: of a query that isn't anchored; where a fact concerns others than its entity and the query is neither tied nor
-/// linked, or is linked alone and what it asks isn't kept; or where more than 64 may have moved. Takes time in what has changed, and for each that
-/// may have moved. Fails where memory is refused.
+/// Unknown, where that can't be told: of a query that isn't anchored; where a fact concerns others than its entity and
+/// the query is neither tied nor linked, or is linked alone and what it asks isn't kept; or where more than 64 may have
+/// moved. Takes time in what has changed, and for each that may have moved. Fails where memory is refused.
 pub fn who_may_have_moved<A: Allocator + Copy, B: Allocator>(
     alloc: A,
     world: &World<A>,
@@ -63,9 +65,11 @@ pub fn who_may_have_moved<A: Allocator + Copy, B: Allocator>(
     requires none { moving.old.items ≡ [] }
     ensures nobody { is_concerned query.now changes.now ≡ false → IfOk result (λ moved. moved ≡ Nobody) }
     ensures concerned { IfOk result (λ moved. moved ≡ Nobody → is_concerned query.now changes.now ≡ false) }
-    ensures all { IfOk result (λ moved. moved ≡ Few → AreAllMoved query.now world.now.state changes.now moving.new.items) }
+    ensures all { IfOk result (λ moved. moved ≡ Few → AreAllMoved query.now world.now.state changes.now
+        moving.new.items) }
     ensures few { IfOk result (λ moved. moved ≡ Few → length moving.new.items ≤ most_moving) }
-    ensures unknown { finds_moving query.now changes.now ≡ false → is_concerned query.now changes.now ≡ true → IfOk result (λ moved. moved ≡ Unknown) }
+    ensures unknown { finds_moving query.now changes.now ≡ false → is_concerned query.now changes.now ≡ true
+        → IfOk result (λ moved. moved ≡ Unknown) }
 {
     world.keeps();
     let mut others = ShortList::new();
@@ -103,9 +107,9 @@ fn is_nobody<A: Allocator>(bonds: Bonds, changes: &Changes<A>, own: usize) -> bo
     own == 0 && (bonds.anchored || !has_births_or_deaths(changes))
 }
 
-/// Whether all who may have moved can be found: births and deaths don't matter, and what came and went concerns a query for no others than the
-/// entities whose facts these are and those below, or for those alone who hold a pair with one of these, or from whom terms lead to one.
-/// Of so many a fact came or went that concerns others.
+/// Whether all who may have moved can be found: births and deaths don't matter, and what came and went concerns a query
+/// for no others than the entities whose facts these are and those below, or for those alone who hold a pair with one
+/// of these, or from whom terms lead to one. Of so many a fact came or went that concerns others.
 #[inline(always)]
 fn finds_moving(bonds: Bonds, others: usize) -> bool
     ensures { result ≡ (bonds.anchored && (bonds.tied || bonds.linked || (others == 0))) }
@@ -121,7 +125,8 @@ pub fn told_by_ids<A: Allocator, B: Allocator>(
 ) -> Option<bool>
     requires sound { IsSound query.now }
     ensures by_ids { result ≡ told_by_ids query.now world.now.state entity }
-    ensures told { IfSome result (λ is. is ≡ list_any (λ x. x == entity) (matching (view_of world.now.state) query.now)) }
+    ensures told { IfSome result (λ is. is ≡ list_any (λ x. x == entity)
+        (matching (view_of world.now.state) query.now)) }
     ensures untold { IfNone result (Contains (view_of world.now.state).entities entity) }
 {
     let Some(ids) = ids_now(world, entity) else {
@@ -136,8 +141,8 @@ pub fn told_by_ids<A: Allocator, B: Allocator>(
     None
 }
 
-/// Adds all who may have moved by another one's fact to those of whom one that concerns the query came or went, and puts all in order. False, where they may be
-/// too many.
+/// Adds all who may have moved by another one's fact to those of whom one that concerns the query came or went, and
+/// puts all in order. False, where they may be too many.
 fn push_all_moving<A: Allocator + Copy, B: Allocator>(
     alloc: A,
     query: &AskedQuery<'_, B>,
@@ -175,15 +180,17 @@ fn push_all_concerned<A: Allocator + Copy, B: Allocator>(
     below: &mut ShortList<A>,
 ) -> Result<(), AllocError>
     ensures own { OnOk result (own.new.items ≡ own.old.items ++ entities_of (concerns query.now) changes.now) }
-    ensures others { OnOk result (others.new.items ≡ others.old.items ++ entities_of (concerns_others query.now) changes.now) }
-    ensures below { OnOk result (below.new.items ≡ below.old.items ++ entities_of (concerns_below query.now) changes.now) }
+    ensures others { OnOk result (others.new.items ≡ others.old.items
+        ++ entities_of (concerns_others query.now) changes.now) }
+    ensures below { OnOk result (below.new.items ≡ below.old.items
+        ++ entities_of (concerns_below query.now) changes.now) }
 {
     push_concerned(alloc, query, changes.came(), own, others, below)?;
     push_concerned(alloc, query, changes.went(), own, others, below)
 }
 
-/// Adds the entities of those facts that concern a query to the first list, of those that concern it for others to the second, and of those that
-/// concern it for those below to the third. The id of each fact is judged once.
+/// Adds the entities of those facts that concern a query to the first list, of those that concern it for others to the
+/// second, and of those that concern it for those below to the third. The id of each fact is judged once.
 #[inline(always)]
 fn push_concerned<A: Allocator + Copy, B: Allocator>(
     alloc: A,
@@ -194,8 +201,10 @@ fn push_concerned<A: Allocator + Copy, B: Allocator>(
     below: &mut ShortList<A>,
 ) -> Result<(), AllocError>
     ensures own { OnOk result (own.new.items ≡ own.old.items ++ entities_by (concerns query.now) facts.now) }
-    ensures others { OnOk result (others.new.items ≡ others.old.items ++ entities_by (concerns_others query.now) facts.now) }
-    ensures below { OnOk result (below.new.items ≡ below.old.items ++ entities_by (concerns_below query.now) facts.now) }
+    ensures others { OnOk result (others.new.items ≡ others.old.items
+        ++ entities_by (concerns_others query.now) facts.now) }
+    ensures below { OnOk result (below.new.items ≡ below.old.items
+        ++ entities_by (concerns_below query.now) facts.now) }
 {
     for fact in facts {
         push_if_concerned(alloc, query, *fact, own, others, below)?;
@@ -214,9 +223,12 @@ fn push_if_concerned<A: Allocator + Copy, B: Allocator>(
     others: &mut ShortList<A>,
     below: &mut ShortList<A>,
 ) -> Result<(), AllocError>
-    ensures own { OnOk result (own.new.items ≡ own.old.items ++ (if concerns query.now fact.1 then fact.0 ∷ [] else [])) }
-    ensures others { OnOk result (others.new.items ≡ others.old.items ++ (if concerns_others query.now fact.1 then fact.0 ∷ [] else [])) }
-    ensures below { OnOk result (below.new.items ≡ below.old.items ++ (if concerns_below query.now fact.1 then fact.0 ∷ [] else [])) }
+    ensures own { OnOk result (own.new.items ≡ own.old.items ++
+        (if concerns query.now fact.1 then fact.0 ∷ [] else [])) }
+    ensures others { OnOk result (others.new.items ≡ others.old.items
+        ++ (if concerns_others query.now fact.1 then fact.0 ∷ [] else [])) }
+    ensures below { OnOk result (below.new.items ≡ below.old.items
+        ++ (if concerns_below query.now fact.1 then fact.0 ∷ [] else [])) }
 {
     let concern = query.concern_of(fact.id());
     let entity = fact.entity();
@@ -242,8 +254,9 @@ fn push_if<A: Allocator>(
     Ok(())
 }
 
-/// Adds all who may have moved by another one's fact to those of whom one that concerns the query came or went, and puts all in order. Begins with those of
-/// whom one did that concerns others, and that concerns those below. False, where they may be too many, or what the query asks isn't kept.
+/// Adds all who may have moved by another one's fact to those of whom one that concerns the query came or went, and
+/// puts all in order. Begins with those of whom one did that concerns others, and that concerns those below. False,
+/// where they may be too many, or what the query asks isn't kept.
 // (the facts of most commands concern their own entities alone)
 #[inline(never)]
 fn push_moved_by_others<A: Allocator + Copy, B: Allocator>(
@@ -274,8 +287,8 @@ fn push_moved_by_others<A: Allocator + Copy, B: Allocator>(
     push_moved_by_roles(alloc, query, asked, world, changes, below, moving)
 }
 
-/// Whether those who may have moved by facts of others hold a pair with one of these, or with one below these: so it is of a tied query, and where no fact
-/// concerns others. Of so many one does.
+/// Whether those who may have moved by facts of others hold a pair with one of these, or with one below these: so it is
+/// of a tied query, and where no fact concerns others. Of so many one does.
 #[inline(always)]
 fn are_holders(bonds: Bonds, others: usize) -> bool
     ensures { result ≡ (bonds.tied || (others == 0)) }
@@ -283,8 +296,8 @@ fn are_holders(bonds: Bonds, others: usize) -> bool
     bonds.tied || others == 0
 }
 
-/// Adds all who hold a pair with one of whom a fact came or went that concerns others, or that concerns those below, or with one below such. Puts all in order.
-/// False, where they may be too many.
+/// Adds all who hold a pair with one of whom a fact came or went that concerns others, or that concerns those below, or
+/// with one below such. Puts all in order. False, where they may be too many.
 fn push_moved_by_pairs<A: Allocator + Copy, B: Allocator>(
     alloc: A,
     query: &AskedQuery<'_, B>,
@@ -314,7 +327,8 @@ fn push_moved_by_pairs<A: Allocator + Copy, B: Allocator>(
     Ok(true)
 }
 
-/// Adds to the second list those who may have moved by a fact of one in the first, which is put in order. False, where they may be too many.
+/// Adds to the second list those who may have moved by a fact of one in the first, which is put in order. False, where
+/// they may be too many.
 fn push_holders<A: Allocator + Copy, B: Allocator>(
     alloc: A,
     query: &AskedQuery<'_, B>,
@@ -323,7 +337,8 @@ fn push_holders<A: Allocator + Copy, B: Allocator>(
     moving: &mut ShortList<A>,
 ) -> Result<bool, AllocError>
     ensures same { (e : ℕ) → Contains others.new.items e ↔ Contains others.old.items e }
-    ensures moving { IfOk result (λ done. done ≡ true → Adds (flat_map (leaning (moves_by query.now) world.now.state) others.new.items) moving.old.items
+    ensures moving { IfOk result (λ done. done ≡ true → Adds (flat_map
+        (leaning (moves_by query.now) world.now.state) others.new.items) moving.old.items
         moving.new.items) }
 {
     put_in_order(others);
@@ -337,8 +352,9 @@ fn push_holders<A: Allocator + Copy, B: Allocator>(
     )
 }
 
-/// Adds all from whom the terms of a linked query lead to one of whom a fact came or went that is asked of another variable than `$this`, and all who
-/// hold a pair with one of whom a fact did that concerns those below, or with one below such. Puts all in order. False, where they may be too many.
+/// Adds all from whom the terms of a linked query lead to one of whom a fact came or went that is asked of another
+/// variable than `$this`, and all who hold a pair with one of whom a fact did that concerns those below, or with one
+/// below such. Puts all in order. False, where they may be too many.
 fn push_moved_by_roles<A: Allocator + Copy, B: Allocator>(
     alloc: A,
     query: &AskedQuery<'_, B>,
@@ -376,7 +392,8 @@ pub(crate) fn push_if_matching<A: Allocator + Copy, B: Allocator>(
     entity: u32,
     found: &mut ShortList<A>,
 ) -> Result<(), AllocError>
-    ensures { OnOk result (Adds (filter (may_be_this query.now world.now.state) (entity ∷ [])) found.old.items found.new.items) }
+    ensures { OnOk result (Adds (filter (may_be_this query.now world.now.state) (entity ∷ [])) found.old.items
+        found.new.items) }
 {
     if is_among(found.as_slice(), entity) {
         return Ok(());
@@ -387,8 +404,8 @@ pub(crate) fn push_if_matching<A: Allocator + Copy, B: Allocator>(
     found.push(alloc, entity)
 }
 
-/// Adds to these entities, of whom a fact came or went that concerns those below, all below them; and to the second list those who may have moved by a
-/// fact of one of these. False, where they may be too many.
+/// Adds to these entities, of whom a fact came or went that concerns those below, all below them; and to the second
+/// list those who may have moved by a fact of one of these. False, where they may be too many.
 #[inline(always)]
 fn push_below<A: Allocator + Copy, B: Allocator>(
     alloc: A,
@@ -397,8 +414,10 @@ fn push_below<A: Allocator + Copy, B: Allocator>(
     below: &mut ShortList<A>,
     moving: &mut ShortList<A>,
 ) -> Result<bool, AllocError>
-    ensures below { IfOk result (λ done. done ≡ true → HasAllBelow (λ ids. concerns_beyond query.now) world.now.state below.old.items below.new.items) }
-    ensures moving { IfOk result (λ done. done ≡ true → Adds (flat_map (leaning (moves_by query.now) world.now.state) below.new.items) moving.old.items
+    ensures below { IfOk result (λ done. done ≡ true → HasAllBelow
+        (λ ids. concerns_beyond query.now) world.now.state below.old.items below.new.items) }
+    ensures moving { IfOk result (λ done. done ≡ true → Adds (flat_map
+        (leaning (moves_by query.now) world.now.state) below.new.items) moving.old.items
         moving.new.items) }
 {
     if below.len() == 0 {
@@ -416,8 +435,10 @@ fn push_all_leaning<A: Allocator + Copy, B: Allocator>(
     below: &mut ShortList<A>,
     moving: &mut ShortList<A>,
 ) -> Result<bool, AllocError>
-    ensures below { IfOk result (λ done. done ≡ true → HasAllBelow (λ ids. concerns_beyond query.now) world.now.state below.old.items below.new.items) }
-    ensures moving { IfOk result (λ done. done ≡ true → Adds (flat_map (leaning (moves_by query.now) world.now.state) below.new.items) moving.old.items
+    ensures below { IfOk result (λ done. done ≡ true → HasAllBelow
+        (λ ids. concerns_beyond query.now) world.now.state below.old.items below.new.items) }
+    ensures moving { IfOk result (λ done. done ≡ true → Adds (flat_map
+        (leaning (moves_by query.now) world.now.state) below.new.items) moving.old.items
         moving.new.items) }
 {
     put_in_order(below);

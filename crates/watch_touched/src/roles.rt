@@ -1,5 +1,5 @@
-//! Who may have moved in or out of a linked query's rows by facts of others than `$this`: back from those of whom a fact came or went, along the
-//! terms that link its variables, to those who may be `$this`.
+//! Who may have moved in or out of a linked query's rows by facts of others than `$this`: back from those of whom a
+//! fact came or went, along the terms that link its variables, to those who may be `$this`.
 
 ghost use Rattle.std.specs.Prelude.{◌≡◌, ◌≤◌, ◌+◌, ◌==◌, ◌&&◌, ◌++◌, ℕ, false, true, filter, flat_map, map, IfOk};
 ghost use Rattle.std.specs.List.{list_any};
@@ -33,10 +33,11 @@ struct Walk<'a, 'q, A: Allocator, B: Allocator> {
     changes: &'a Changes<A>,
 }
 
-/// Adds all who may have moved by a fact of somebody who may stand for another variable than `$this`. False, where more are looked at than few.
+/// Adds all who may have moved by a fact of somebody who may stand for another variable than `$this`. False, where more
+/// are looked at than few.
 ///
-/// A fact is begun with as each variable that is asked for it and whose needs its holder has, or had. From there it goes back alone, to variables
-/// before, so each walk ends.
+/// A fact is begun with as each variable that is asked for it and whose needs its holder has, or had. From there it
+/// goes back alone, to variables before, so each walk ends.
 pub(crate) fn push_by_roles<A: Allocator + Copy, B: Allocator>(
     alloc: A,
     query: &AskedQuery<'_, B>,
@@ -47,7 +48,8 @@ pub(crate) fn push_by_roles<A: Allocator + Copy, B: Allocator>(
 ) -> Result<bool, AllocError>
     requires asked { IsAskedBy query.now asked.now }
     ensures { IfOk result (λ done. done ≡ true → Adds (this_among query.now world.now.state (λ v t. true) changes.now
-        (roles_of query.now world.now.state (λ v t. true) changes.now (map (λ a. a.variable) asked.now.others.items))) moving.old.items moving.new.items) }
+        (roles_of query.now world.now.state (λ v t. true) changes.now (map (λ a. a.variable) asked.now.others.items)))
+        moving.old.items moving.new.items) }
 {
     let walk = Walk {
         query,
@@ -75,7 +77,8 @@ fn push_from_facts<A: Allocator + Copy, B: Allocator>(
 ) -> Result<bool, AllocError>
     requires asked { IsAskedBy walk.now.query.now walk.now.asked.now }
     ensures { IfOk result (λ done. done ≡ true → Adds (flat_map
-        (found_from walk.now.query.now walk.now.world.now.state walk.now.changes.now walk.now.asked.now.others.items) facts.now) moving.old.items
+        (found_from walk.now.query.now walk.now.world.now.state walk.now.changes.now walk.now.asked.now.others.items)
+        facts.now) moving.old.items
         moving.new.items) }
 {
     for fact in facts {
@@ -86,7 +89,8 @@ fn push_from_facts<A: Allocator + Copy, B: Allocator>(
     Ok(true)
 }
 
-/// Adds those who may be `$this` behind the entity of a fact, as each variable for which it counts. False, where more are looked at than so many.
+/// Adds those who may be `$this` behind the entity of a fact, as each variable for which it counts. False, where more
+/// are looked at than so many.
 // (out of line, so that where no fact came or went nothing is paid for it)
 #[inline(never)]
 fn push_from_fact<A: Allocator + Copy, B: Allocator>(
@@ -97,7 +101,8 @@ fn push_from_fact<A: Allocator + Copy, B: Allocator>(
     moving: &mut ShortList<A>,
 ) -> Result<bool, AllocError>
     requires asked { IsAskedBy walk.now.query.now walk.now.asked.now }
-    ensures { IfOk result (λ done. done ≡ true → Adds (found_from walk.now.query.now walk.now.world.now.state walk.now.changes.now
+    ensures { IfOk result (λ done. done ≡ true → Adds (found_from walk.now.query.now walk.now.world.now.state
+        walk.now.changes.now
         walk.now.asked.now.others.items fact) moving.old.items moving.new.items) }
 {
     let entity = fact.entity();
@@ -142,7 +147,8 @@ fn push_behind<A: Allocator + Copy, B: Allocator>(
 ) -> Result<bool, AllocError>
     requires asked { IsAskedBy walk.now.query.now walk.now.asked.now }
     ensures { IfOk result (λ done. done ≡ true → (n : ℕ) → variable ≤ n
-        → Adds (found_behind walk.now.query.now walk.now.world.now.state walk.now.changes.now n variable entity) moving.old.items moving.new.items) }
+        → Adds (found_behind walk.now.query.now walk.now.world.now.state walk.now.changes.now n variable entity)
+        moving.old.items moving.new.items) }
 {
     if variable == 0 {
         push_if_matching(alloc, walk.query, walk.world, entity, moving)?;
@@ -167,8 +173,9 @@ fn leads_to(step: &LinkStep, variable: usize) -> bool
     step.to() == variable
 }
 
-/// Adds those who may be `$this` behind those from whom a step may lead to an entity: behind who holds a pair with it, or behind the targets of such
-/// pairs that it holds, or that went from it. False, where more are looked at than so many.
+/// Adds those who may be `$this` behind those from whom a step may lead to an entity: behind who holds a pair with it,
+/// or behind the targets of such pairs that it holds, or that went from it. False, where more are looked at than so
+/// many.
 #[cycle(behind)]
 fn push_by_step<A: Allocator + Copy, B: Allocator>(
     alloc: A,
@@ -181,7 +188,8 @@ fn push_by_step<A: Allocator + Copy, B: Allocator>(
     requires asked { IsAskedBy walk.now.query.now walk.now.asked.now }
     ensures { IfOk result (λ done. done ≡ true → (n : ℕ) → step.now.from ≤ n
         → Adds (flat_map (found_behind walk.now.query.now walk.now.world.now.state walk.now.changes.now n step.now.from)
-        (step_back walk.now.query.now walk.now.world.now.state walk.now.asked.now.others.items walk.now.changes.now.went step.now entity)) moving.old.items
+        (step_back walk.now.query.now walk.now.world.now.state walk.now.asked.now.others.items walk.now.changes.now.went
+        step.now entity)) moving.old.items
         moving.new.items) }
 {
     if step.is_outward() {
@@ -194,7 +202,8 @@ fn push_by_step<A: Allocator + Copy, B: Allocator>(
     push_behind_gone(alloc, walk, step, entity, free, moving)
 }
 
-/// Adds those who may be `$this` behind who holds a pair with an entity by which a step may lead from them to it. False, where more are looked at than so many.
+/// Adds those who may be `$this` behind who holds a pair with an entity by which a step may lead from them to it.
+/// False, where more are looked at than so many.
 #[cycle(behind)]
 fn push_behind_holders<A: Allocator + Copy, B: Allocator>(
     alloc: A,
@@ -207,7 +216,8 @@ fn push_behind_holders<A: Allocator + Copy, B: Allocator>(
     requires asked { IsAskedBy walk.now.query.now walk.now.asked.now }
     ensures { IfOk result (λ done. done ≡ true → (n : ℕ) → step.now.from ≤ n
         → Adds (flat_map (found_behind walk.now.query.now walk.now.world.now.state walk.now.changes.now n step.now.from)
-        (leaning (leads_by walk.now.query.now walk.now.asked.now.others.items walk.now.changes.now.went step.now) walk.now.world.now.state entity))
+        (leaning (leads_by walk.now.query.now walk.now.asked.now.others.items walk.now.changes.now.went step.now)
+        walk.now.world.now.state entity))
         moving.old.items moving.new.items) }
 {
     let variable = step.from();
@@ -222,8 +232,8 @@ fn push_behind_holders<A: Allocator + Copy, B: Allocator>(
     push_behind_all(alloc, walk, variable, entities, free, moving)
 }
 
-/// Adds those who may be `$this` behind the targets of those of an entity's ids that are pairs by which a step may lead from their target to it.
-/// False, where more are looked at than so many.
+/// Adds those who may be `$this` behind the targets of those of an entity's ids that are pairs by which a step may lead
+/// from their target to it. False, where more are looked at than so many.
 #[cycle(behind)]
 fn push_behind_targets<A: Allocator + Copy, B: Allocator>(
     alloc: A,
@@ -235,7 +245,8 @@ fn push_behind_targets<A: Allocator + Copy, B: Allocator>(
 ) -> Result<bool, AllocError>
     requires asked { IsAskedBy walk.now.query.now walk.now.asked.now }
     ensures { IfOk result (λ done. done ≡ true → (n : ℕ) → step.now.from ≤ n
-        → Adds (flat_map (behind_target walk.now.query.now walk.now.world.now.state walk.now.changes.now n step.now) ids.now) moving.old.items
+        → Adds (flat_map (behind_target walk.now.query.now walk.now.world.now.state walk.now.changes.now n step.now)
+        ids.now) moving.old.items
         moving.new.items) }
 {
     for id in ids {
@@ -246,7 +257,8 @@ fn push_behind_targets<A: Allocator + Copy, B: Allocator>(
     Ok(true)
 }
 
-/// Adds those who may be `$this` behind the targets of those pairs that went from an entity. False, where more are looked at than so many.
+/// Adds those who may be `$this` behind the targets of those pairs that went from an entity. False, where more are
+/// looked at than so many.
 #[cycle(behind)]
 fn push_behind_gone<A: Allocator + Copy, B: Allocator>(
     alloc: A,
@@ -258,7 +270,8 @@ fn push_behind_gone<A: Allocator + Copy, B: Allocator>(
 ) -> Result<bool, AllocError>
     requires asked { IsAskedBy walk.now.query.now walk.now.asked.now }
     ensures { IfOk result (λ done. done ≡ true → (n : ℕ) → step.now.from ≤ n
-        → Adds (flat_map (behind_gone walk.now.query.now walk.now.world.now.state walk.now.changes.now n step.now entity) walk.now.changes.now.went)
+        → Adds (flat_map (behind_gone walk.now.query.now walk.now.world.now.state walk.now.changes.now n step.now
+        entity) walk.now.changes.now.went)
         moving.old.items moving.new.items) }
 {
     let went = walk.changes.went();
@@ -273,7 +286,8 @@ fn push_behind_gone<A: Allocator + Copy, B: Allocator>(
     Ok(true)
 }
 
-/// Adds those who may be `$this` behind the target of a pair, if a step may lead from that to the pair's holder. False, where more are looked at than so many.
+/// Adds those who may be `$this` behind the target of a pair, if a step may lead from that to the pair's holder. False,
+/// where more are looked at than so many.
 #[cycle(behind)]
 fn push_behind_target<A: Allocator + Copy, B: Allocator>(
     alloc: A,
@@ -285,7 +299,8 @@ fn push_behind_target<A: Allocator + Copy, B: Allocator>(
 ) -> Result<bool, AllocError>
     requires asked { IsAskedBy walk.now.query.now walk.now.asked.now }
     ensures { IfOk result (λ done. done ≡ true → (n : ℕ) → step.now.from ≤ n
-        → Adds (behind_target walk.now.query.now walk.now.world.now.state walk.now.changes.now n step.now id) moving.old.items moving.new.items) }
+        → Adds (behind_target walk.now.query.now walk.now.world.now.state walk.now.changes.now n step.now id)
+        moving.old.items moving.new.items) }
 {
     let Some(target) = id.second() else {
         return Ok(true);
@@ -299,7 +314,8 @@ fn push_behind_target<A: Allocator + Copy, B: Allocator>(
     push_behind(alloc, walk, step.from(), target, free, moving)
 }
 
-/// Adds those who may be `$this` behind each of these entities, as those of a variable. False, where more are looked at than so many.
+/// Adds those who may be `$this` behind each of these entities, as those of a variable. False, where more are looked at
+/// than so many.
 #[cycle(behind)]
 fn push_behind_all<A: Allocator + Copy, B: Allocator>(
     alloc: A,
@@ -311,7 +327,8 @@ fn push_behind_all<A: Allocator + Copy, B: Allocator>(
 ) -> Result<bool, AllocError>
     requires asked { IsAskedBy walk.now.query.now walk.now.asked.now }
     ensures { IfOk result (λ done. done ≡ true → (n : ℕ) → variable ≤ n
-        → Adds (flat_map (found_behind walk.now.query.now walk.now.world.now.state walk.now.changes.now n variable) entities.now) moving.old.items
+        → Adds (flat_map (found_behind walk.now.query.now walk.now.world.now.state walk.now.changes.now n variable)
+        entities.now) moving.old.items
         moving.new.items) }
 {
     for entity in entities {
@@ -322,7 +339,8 @@ fn push_behind_all<A: Allocator + Copy, B: Allocator>(
     Ok(true)
 }
 
-/// Adds those who hold a pair with an entity by which a step may lead from them to it. False, where more are looked at than so many.
+/// Adds those who hold a pair with an entity by which a step may lead from them to it. False, where more are looked at
+/// than so many.
 fn push_holders<A: Allocator + Copy, B: Allocator>(
     alloc: A,
     walk: &Walk<'_, '_, A, B>,
@@ -331,7 +349,8 @@ fn push_holders<A: Allocator + Copy, B: Allocator>(
     free: &mut usize,
     found: &mut ShortList<A>,
 ) -> Result<bool, AllocError>
-    ensures { IfOk result (λ done. done ≡ true → Adds (leaning (leads_by walk.now.query.now walk.now.asked.now.others.items walk.now.changes.now.went step.now)
+    ensures { IfOk result (λ done. done ≡ true → Adds (leaning (leads_by walk.now.query.now
+        walk.now.asked.now.others.items walk.now.changes.now.went step.now)
         walk.now.world.now.state target) found.old.items found.new.items) }
 {
     let links = walk.world.links();
@@ -343,7 +362,8 @@ fn push_holders<A: Allocator + Copy, B: Allocator>(
     push_holders_in(alloc, walk, step, store, tables, target, free, found)
 }
 
-/// Adds those in these tables from whom a step may lead to an entity. False, where more are looked at than so many, and then not all are added.
+/// Adds those in these tables from whom a step may lead to an entity. False, where more are looked at than so many, and
+/// then not all are added.
 fn push_holders_in<A: Allocator + Copy, B: Allocator>(
     alloc: A,
     walk: &Walk<'_, '_, A, B>,
@@ -355,7 +375,8 @@ fn push_holders_in<A: Allocator + Copy, B: Allocator>(
     found: &mut ShortList<A>,
 ) -> Result<bool, AllocError>
     ensures { IfOk result (λ done. done ≡ true → (w : WorldState) → HoldTheirs w store.now
-        → Adds (filter (leans (leads_by walk.now.query.now walk.now.asked.now.others.items walk.now.changes.now.went step.now) w target)
+        → Adds (filter (leans (leads_by walk.now.query.now walk.now.asked.now.others.items walk.now.changes.now.went
+        step.now) w target)
         (flat_map (standing_in store.now) tables.now)) found.old.items found.new.items) }
 {
     'tables: for listed in tables {
@@ -372,8 +393,9 @@ fn push_holders_in<A: Allocator + Copy, B: Allocator>(
     Ok(true)
 }
 
-/// Adds these entities, of whom each holds these ids, if a step may lead from them to another one: it may from all of them, or from nobody. False, where more
-/// are looked at than so many: they count for one where it leads from nobody, however many they are.
+/// Adds these entities, of whom each holds these ids, if a step may lead from them to another one: it may from all of
+/// them, or from nobody. False, where more are looked at than so many: they count for one where it leads from nobody,
+/// however many they are.
 #[inline(always)]
 fn push_rows<A: Allocator + Copy, B: Allocator>(
     alloc: A,
@@ -386,7 +408,8 @@ fn push_rows<A: Allocator + Copy, B: Allocator>(
     found: &mut ShortList<A>,
 ) -> Result<bool, AllocError>
     ensures { IfOk result (λ done. done ≡ true → (w : WorldState) → HoldAll w ids.now (map (λ e. e.index) entities.now)
-        → Adds (filter (leans (leads_by walk.now.query.now walk.now.asked.now.others.items walk.now.changes.now.went step.now) w target)
+        → Adds (filter (leans (leads_by walk.now.query.now walk.now.asked.now.others.items walk.now.changes.now.went
+        step.now) w target)
         (map (λ e. e.index) entities.now)) found.old.items found.new.items) }
 {
     // who is there already needn't be judged
@@ -406,8 +429,8 @@ fn push_rows<A: Allocator + Copy, B: Allocator>(
     Ok(true)
 }
 
-/// Whether a step may lead to a target from those who hold these ids. One is a pair with it by which the step leads, so of `$this` only the others
-/// are looked at.
+/// Whether a step may lead to a target from those who hold these ids. One is a pair with it by which the step leads, so
+/// of `$this` only the others are looked at.
 fn may_lead<A: Allocator, B: Allocator>(
     walk: &Walk<'_, '_, A, B>,
     step: &LinkStep,
@@ -415,7 +438,8 @@ fn may_lead<A: Allocator, B: Allocator>(
     ids: &[Id],
 ) -> bool
     ensures { result ≡ false → list_any (λ i. matches (pairs_to target) i
-        && leads_by walk.now.query.now walk.now.asked.now.others.items walk.now.changes.now.went step.now ids.now i) ids.now ≡ false }
+        && leads_by walk.now.query.now walk.now.asked.now.others.items walk.now.changes.now.went step.now ids.now i)
+        ids.now ≡ false }
 {
     let variable = step.from();
     if variable == 0 {
@@ -453,7 +477,8 @@ fn leads_by_pair<A: Allocator, B: Allocator>(
     id: Id,
 ) -> bool
     ensures { result ≡ (matches (pairs_to target) id && (matches step.now.asked id
-        && any_counts_as (λ v. v == step.now.from) walk.now.asked.now.others.items (ids.now ++ map (λ k. k.1) walk.now.changes.now.went) id)) }
+        && any_counts_as (λ v. v == step.now.from) walk.now.asked.now.others.items
+        (ids.now ++ map (λ k. k.1) walk.now.changes.now.went) id)) }
 {
     is_pair_to(id, target) && step.matches(id) && counts_from(walk, step, ids, id)
 }
@@ -465,7 +490,8 @@ fn counts_from<A: Allocator, B: Allocator>(
     ids: &[Id],
     id: Id,
 ) -> bool
-    ensures { result ≡ any_counts_as (λ v. v == step.now.from) walk.now.asked.now.others.items (ids.now ++ map (λ k. k.1) walk.now.changes.now.went) id }
+    ensures { result ≡ any_counts_as (λ v. v == step.now.from) walk.now.asked.now.others.items
+        (ids.now ++ map (λ k. k.1) walk.now.changes.now.went) id }
 {
     let others = walk.asked.others();
     let variable = step.from();
@@ -473,7 +499,8 @@ fn counts_from<A: Allocator, B: Allocator>(
     any_counts_as(others, variable, ids, went, id)
 }
 
-/// Whether somebody who has held no other ids than these, and those of these facts, is asked for an id as the entity of a variable.
+/// Whether somebody who has held no other ids than these, and those of these facts, is asked for an id as the entity of
+/// a variable.
 fn any_counts_as<B: Allocator>(
     others: &[AskedOf<B>],
     variable: usize,

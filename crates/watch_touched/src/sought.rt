@@ -10,7 +10,8 @@ use watch_asked::AskedQuery;
 /// Who is looked for among those that hold a pair with an entity.
 #[derive(Clone, Copy, Drop)]
 pub(crate) enum Sought {
-    /// Who may move by a fact of that: whose pair concerns the query, and who doesn't lack what it asks of `$this` itself.
+    /// Who may move by a fact of that: whose pair concerns the query, and who doesn't lack what it asks of `$this`
+    /// itself.
     Moving,
     /// Who is below it: whose pair concerns the query for others, or for those below.
     Below,

@@ -27,7 +27,8 @@ pub fn touched<'w, A: Allocator + Copy>(
 ) -> Result<Vec<Touched<'w, A>, A>, AllocError>
     requires { IsAfter world.now.state changes.now }
     ensures ascends { IfOk result (λ touched. IsStrictlyIncreasing (map (λ t. t.index) touched.items)) }
-    ensures touched { IfOk result (λ touched. AreTouched (map touch_of touched.items) (view_before world.now.state changes.now) (view_of world.now.state)) }
+    ensures touched { IfOk result (λ touched. AreTouched (map touch_of touched.items)
+        (view_before world.now.state changes.now) (view_of world.now.state)) }
 {
     world.keeps();
     let indexes = touched_indexes(alloc, changes)?;
@@ -48,7 +49,8 @@ fn touch<'w, A: Allocator + Copy>(
 ) -> Result<Touched<'w, A>, AllocError>
     requires after { IsAfter world.now.state changes.now }
     requires touched { Contains (indexes_of changes.now) index }
-    ensures { IfOk result (λ t. touch_of t ≡ touch_at (view_before world.now.state changes.now) (view_of world.now.state) index) }
+    ensures { IfOk result (λ t. touch_of t ≡ touch_at (view_before world.now.state changes.now)
+        (view_of world.now.state) index) }
 {
     world.keeps();
     let after = ids_now(world, index);

@@ -2,8 +2,8 @@
 
 ghost use Rattle.world_facts.specs.Rises.{RisesAreAcyclic};
 
-/// Law: in a well-formed world the plans of a query that asks ancestors along what is Traversable alone ask them along what has no
-/// cycle, as runs ask.
+/// Law: in a well-formed world the plans of a query that asks ancestors along what is Traversable alone ask them along
+/// what has no cycle, as runs ask.
 pub fn rises_are_acyclic()
     ensures { RisesAreAcyclic }
 {}

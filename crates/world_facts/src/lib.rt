@@ -23,8 +23,8 @@ use std::marker::Model;
 
 /// What a run reads of a world: its facts, and the lists by which candidates are found.
 ///
-/// It takes no memory, and all that it gives are slices of the world's own. Ids are found by an entity's place, and tables by one
-/// look-up of a pattern.
+/// It takes no memory, and all that it gives are slices of the world's own. Ids are found by an entity's place, and
+/// tables by one look-up of a pattern.
 #[derive(Drop)]
 pub struct WorldFacts<'w, A: Allocator> {
     world: &'w World<A>,
@@ -51,7 +51,8 @@ impl<'w, A: Allocator> WorldFacts<'w, A> {
         WorldFacts { world, links }
     }
 
-    /// Law: the tables that a query lists in the world are kept for it, as runs over given tables ask. The call does nothing.
+    /// Law: the tables that a query lists in the world are kept for it, as runs over given tables ask. The call does
+    /// nothing.
     pub fn keeps_tables(&self)
         ensures { KeepsTables self.now }
     {
@@ -59,8 +60,8 @@ impl<'w, A: Allocator> WorldFacts<'w, A> {
         let _world = self.world;
     }
 
-    /// Law: the tables that are listed for each pattern are those of the world that have an id which it matches, each once. So of any two
-    /// facts of one world the lists are equally long. The call does nothing.
+    /// Law: the tables that are listed for each pattern are those of the world that have an id which it matches, each
+    /// once. So of any two facts of one world the lists are equally long. The call does nothing.
     pub fn keeps_lists(&self)
         ensures { ListsTables self.now }
     {

@@ -30,7 +30,8 @@ use script_streams::Sink;
 use std::alloc::{AllocError, Allocator};
 use world_query::{QUERY_ROOM, SendError, read_query, send_rows};
 
-/// Does what a line says, adds what it prints to the output, and answers whether it was refused. What stands in `values` is lost.
+/// Does what a line says, adds what it prints to the output, and answers whether it was refused. What stands in
+/// `values` is lost.
 pub(crate) fn run_line<A: Allocator + Copy, W: Sink>(
     alloc: A,
     session: &mut Session<A>,
@@ -43,7 +44,8 @@ pub(crate) fn run_line<A: Allocator + Copy, W: Sink>(
 ) -> Result<bool, SendError>
     requires none_wait { session.old.waiting ≡ None }
     ensures does { DoesLine (line_effect (session_of session.old) number line.now)
-        (session_of session.new) W.contents W.calls writer.old writer.new most output.old.items output.new.items result }
+        (session_of session.new) W.contents W.calls writer.old writer.new most output.old.items output.new.items
+        result }
     ensures none_wait { OnOk result (session.new.waiting ≡ None) }
 {
     run_opened(
@@ -73,7 +75,8 @@ fn run_opened<A: Allocator + Copy, W: Sink>(
 ) -> Result<bool, SendError>
     requires none_wait { session.old.waiting ≡ None }
     ensures { DoesLine (effect_of (session_of session.old) number (form_opened opening.entry))
-        (session_of session.new) W.contents W.calls writer.old writer.new most output.old.items output.new.items result }
+        (session_of session.new) W.contents W.calls writer.old writer.new most output.old.items output.new.items
+        result }
 {
     match fact_line_in(opening) {
         Some((deed, rest)) => unsent(run_fact_line(session, number, deed, rest, values, output)),
@@ -110,7 +113,8 @@ fn run_other<A: Allocator + Copy, W: Sink>(
 ) -> Result<bool, SendError>
     requires none_wait { session.old.waiting ≡ None }
     ensures { DoesLine (effect_of (session_of session.old) number (form_opened opening.entry))
-        (session_of session.new) W.contents W.calls writer.old writer.new most output.old.items output.new.items result }
+        (session_of session.new) W.contents W.calls writer.old writer.new most output.old.items output.new.items
+        result }
 {
     match opening {
         Opening::Entity { rest } => unsent(run_entity_line(session, number, rest, output)),
@@ -138,7 +142,8 @@ fn run_rarer<A: Allocator + Copy, W: Sink>(
 ) -> Result<bool, SendError>
     requires none_wait { session.old.waiting ≡ None }
     ensures { DoesLine (effect_of (session_of session.old) number (form_opened opening.entry))
-        (session_of session.new) W.contents W.calls writer.old writer.new most output.old.items output.new.items result }
+        (session_of session.new) W.contents W.calls writer.old writer.new most output.old.items output.new.items
+        result }
 {
     let form = read_opened(alloc, opening, values)?;
     run_form(
@@ -224,7 +229,8 @@ fn run_entity_line<A: Allocator + Copy>(
     rest: &str,
     output: &mut Vec<u8, A>,
 ) -> Result<bool, AllocError>
-    ensures { IfOk result (IsDone (effect_of (session_of session.old) number (one_word (λ n. CarryOut (InWorld (MakeEntity n))) (words rest.now)))
+    ensures { IfOk result (IsDone (effect_of (session_of session.old) number
+        (one_word (λ n. CarryOut (InWorld (MakeEntity n))) (words rest.now)))
         (session_of session.new) output.old.items output.new.items) }
 {
     match only_word(rest) {
@@ -243,7 +249,8 @@ fn run_delete_line<A: Allocator + Copy>(
     output: &mut Vec<u8, A>,
 ) -> Result<bool, AllocError>
     requires none_wait { session.old.waiting ≡ None }
-    ensures { IfOk result (IsDone (effect_of (session_of session.old) number (entity_line (λ r. CarryOut (InWorld (DeleteOne r))) rest.now))
+    ensures { IfOk result (IsDone (effect_of (session_of session.old) number
+        (entity_line (λ r. CarryOut (InWorld (DeleteOne r))) rest.now))
         (session_of session.new) output.old.items output.new.items) }
 {
     match only_entity(rest) {
@@ -264,7 +271,8 @@ fn run_rows_line<A: Allocator + Copy, W: Sink>(
     writer: &mut W,
 ) -> Result<bool, SendError>
     ensures { DoesLine (effect_of (session_of session.old) number (one_word AskKept (words rest.now)))
-        (session_of session.new) W.contents W.calls writer.old writer.new most output.old.items output.new.items result }
+        (session_of session.new) W.contents W.calls writer.old writer.new most output.old.items output.new.items
+        result }
 {
     match only_word(rest) {
         Some(name) => run_rows(session, number, name, output, most, writer),
@@ -286,7 +294,8 @@ fn run_form<A: Allocator + Copy, W: Sink>(
 ) -> Result<bool, SendError>
     requires none_wait { session.old.waiting ≡ None }
     ensures { DoesLine (effect_of (session_of session.old) number (seen values.now line.entry))
-        (session_of session.new) W.contents W.calls writer.old writer.new most output.old.items output.new.items result }
+        (session_of session.new) W.contents W.calls writer.old writer.new most output.old.items output.new.items
+        result }
 {
     match line {
         Line::Nothing => Ok(false),
@@ -360,7 +369,8 @@ fn run_component<A: Allocator + Copy>(
     fields: &[(&str, Kind)],
     output: &mut Vec<u8, A>,
 ) -> Result<bool, AllocError>
-    ensures { IfOk result (IsDone (effect_of (session_of session.old) number (Define name.now (map seen_field fields.now)))
+    ensures { IfOk result (IsDone (effect_of (session_of session.old) number
+        (Define name.now (map seen_field fields.now)))
         (session_of session.new) output.old.items output.new.items) }
 {
     match Schema::new(alloc, fields) {
@@ -383,7 +393,8 @@ fn run_add<A: Allocator + Copy>(
     output: &mut Vec<u8, A>,
 ) -> Result<bool, AllocError>
     requires none_wait { session.old.waiting ≡ None }
-    ensures { IfOk result (IsDone (effect_of (session_of session.old) number (CarryOut (InWorld (AddTo (seen_reference entity.entry) (seen_id id.entry)))))
+    ensures { IfOk result (IsDone (effect_of (session_of session.old) number
+        (CarryOut (InWorld (AddTo (seen_reference entity.entry) (seen_id id.entry)))))
         (session_of session.new) output.old.items output.new.items) }
 {
     match find_both(session.world(), entity, id) {
@@ -458,7 +469,8 @@ fn run_remove<A: Allocator + Copy>(
     output: &mut Vec<u8, A>,
 ) -> Result<bool, AllocError>
     requires none_wait { session.old.waiting ≡ None }
-    ensures { IfOk result (IsDone (effect_of (session_of session.old) number (CarryOut (InWorld (RemoveFrom (seen_reference entity.entry) (seen_id id.entry)))))
+    ensures { IfOk result (IsDone (effect_of (session_of session.old) number
+        (CarryOut (InWorld (RemoveFrom (seen_reference entity.entry) (seen_id id.entry)))))
         (session_of session.new) output.old.items output.new.items) }
 {
     match find_both(session.world(), entity, id) {
@@ -492,7 +504,8 @@ fn run_delete<A: Allocator + Copy>(
     output: &mut Vec<u8, A>,
 ) -> Result<bool, AllocError>
     requires none_wait { session.old.waiting ≡ None }
-    ensures { IfOk result (IsDone (effect_of (session_of session.old) number (CarryOut (InWorld (DeleteOne (seen_reference entity.entry)))))
+    ensures { IfOk result (IsDone (effect_of (session_of session.old) number
+        (CarryOut (InWorld (DeleteOne (seen_reference entity.entry)))))
         (session_of session.new) output.old.items output.new.items) }
 {
     match find_entity(session.world(), entity) {
@@ -535,7 +548,8 @@ fn run_query<A: Allocator + Copy, W: Sink>(
     writer: &mut W,
 ) -> Result<bool, SendError>
     ensures { DoesLine (effect_of (session_of session.now) number (Ask text.now))
-        (session_of session.now) W.contents W.calls writer.old writer.new most output.old.items output.new.items result }
+        (session_of session.now) W.contents W.calls writer.old writer.new most output.old.items output.new.items
+        result }
 {
     let world = session.world();
     let room = Bump::try_with_capacity(alloc, QUERY_ROOM)?;
@@ -574,7 +588,8 @@ fn run_rows<A: Allocator + Copy, W: Sink>(
     writer: &mut W,
 ) -> Result<bool, SendError>
     ensures { DoesLine (effect_of (session_of session.old) number (AskKept name.now))
-        (session_of session.new) W.contents W.calls writer.old writer.new most output.old.items output.new.items result }
+        (session_of session.new) W.contents W.calls writer.old writer.new most output.old.items output.new.items
+        result }
 {
     match session.send_kept_rows(name, output, most, writer) {
         Ok(_) => Ok(false),
