@@ -24,7 +24,7 @@ use Rattle.ecs_archetypes.proofs.ArchetypeCalls.{found_settled}
 use Rattle.ecs_archetypes.proofs.CarriedCells.{carried_self}
 use Rattle.ecs_archetypes.proofs.FactLists.{put_size}
 use Rattle.ecs_archetypes.proofs.KnownIds.{of_shape}
-use Rattle.ecs_archetypes.proofs.MapLists.{both, list_all_filter, list_all_put, sorted_mapped}
+use Rattle.ecs_archetypes.proofs.MapLists.{list_all_filter, list_all_put, sorted_mapped}
 use Rattle.ecs_archetypes.proofs.Soundness.{alive_found, held_row, holdings, placed_alive, row_shape, row_sorted}
 
 -- ids that come keep a list in order, and what is said of all

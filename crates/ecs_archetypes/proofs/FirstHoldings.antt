@@ -6,12 +6,12 @@ use Rattle.ecs_model.specs.World.{last_index, next_among}
 use Rattle.entity_index.specs.Entities.{Entities, IsWellFormed, is_alive, built_in_entities, place_of}
 use Rattle.entity_index.specs.Entities as index
 use Rattle.ecs_archetypes.specs.Archetypes.{IsSound, meaning}
-use Rattle.ecs_archetypes.specs.Holdings.{first_holdings, upcoming}
+use Rattle.ecs_archetypes.specs.Holdings.{upcoming}
 use Rattle.table_store.specs.Rows.{IsStored, row_at, row_of}
 use Rattle.ecs_id.specs.TableKeys.{table_eq}
-use Rattle.table_store.specs.Store.{Store, shape_of, table_at}
+use Rattle.table_store.specs.Store.{Store, table_at}
 use Rattle.std.specs.Option.{option_and_then}
-use Rattle.std.specs.List.{find, flat_map}
+use Rattle.std.specs.List.{find}
 
 -- the index and the holdings agree on which entity comes next
 pub same_next : (w : Entities) (s : Store) → w.last ≡ last_index → index.next_entity w ≡ upcoming (meaning w s)

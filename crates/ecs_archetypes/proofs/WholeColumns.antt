@@ -1,5 +1,5 @@
 -- The values of one id are written in all rows of a table.
-use Rattle.std.proofs.Common.{◌≡◌, ◌≢◌, ℕ, zero, suc, ◌+◌, ◌*◌, ◌<◌, Bool, true, false, cond, if◌then◌else◌, List, [], ◌∷◌, length, map, take, drop, Option, Some, None, option_map, unwrap_or, refl, sym, ap, subst, ◌∙◌, true≢false, arith}
+use Rattle.std.proofs.Common.{◌≡◌, ℕ, zero, suc, ◌+◌, ◌*◌, Bool, true, false, cond, if◌then◌else◌, List, [], ◌∷◌, take, drop, Option, Some, None, option_map, unwrap_or, refl, sym, ap, ◌∙◌, true≢false, arith}
 use Rattle.std.specs.List.{slice_get}
 use Rattle.std.specs.Cmp.{nat_cmp_total}
 use Rattle.std.specs.Ordering.{nat_cmp, eq_by_cmp}
@@ -14,8 +14,8 @@ use Rattle.ecs_id.specs.Id.{Id, id_cmp}
 use Rattle.ecs_table.specs.Archetype.{Archetype}
 use Rattle.ecs_model.specs.Map.{Map, IsMap}
 use Rattle.ecs_model.proofs.Maps.{IsMap-with_value, eq_itself, to_T}
-use Rattle.entity_index.specs.Entities.{Entities, is_alive, place_of}
-use Rattle.table_store.specs.Rows.{Cells, IsStored, Row, cells_of, row_at, row_of, with_cell, with_column_at}
+use Rattle.entity_index.specs.Entities.{Entities, place_of}
+use Rattle.table_store.specs.Rows.{Cells, IsStored, Row, cells_of, row_at, with_cell, with_column_at}
 use Rattle.ecs_id.specs.TableKeys.{table_eq}
 use Rattle.table_store.specs.Store.{Store, table_at}
 use Rattle.table_store.proofs.Changes.{row_here}
@@ -23,7 +23,7 @@ use Rattle.ecs_archetypes.specs.Archetypes.{IsSound, all_cells, cells_there, mea
 use Rattle.ecs_archetypes.specs.Holdings.{HoldAlike, Holdings, with_each_written}
 use Rattle.ecs_archetypes.proofs.MapLists.{nat_same}
 use Rattle.ecs_archetypes.proofs.Placings.{table_eq-tells}
-use Rattle.ecs_archetypes.proofs.Soundness.{alive_place, alive_same, cells_found, found_alive, holdings, own_row, place_here, placed_alive, placed_found, row_table}
+use Rattle.ecs_archetypes.proofs.Soundness.{alive_place, cells_found, found_alive, holdings, own_row, place_here, placed_found, row_table}
 
 -- ---- a map after each of these entities has got its value
 module _ (i : Id) (n : ℕ) where
