@@ -15,7 +15,7 @@ use ecs_schema::laws::bytes_are_a_value;
 use ecs_world::World;
 use std::alloc::{AllocError, Allocator};
 
-/// The numbers of a value take at most so many bytes: eight of up to twenty digits, each with a sign and what stands
+/// The numbers of a value take at most so many bytes: eight of up to twenty digits, each with a sign and a separator
 /// before it.
 pub const MOST_TEXT: usize = 176;
 
@@ -35,7 +35,7 @@ pub fn write_facts<A: Allocator>(
         let (id, bytes) = facts.at(place);
         write_held(world, id, bytes, out)?;
     }
-    // Behind the last fact no other follows.
+    // No separator stands after the last fact.
     out.truncate(out.len() - 2);
     Ok(())
 }
@@ -74,7 +74,7 @@ pub fn write_value<A: Allocator>(
     }
 }
 
-/// Writes an id, the value that its bytes mean, and what stands between two facts.
+/// Writes an id, the value that its bytes mean, and the separator of facts.
 #[inline(always)]
 fn write_held<A: Allocator>(
     world: &World<A>,
@@ -89,8 +89,8 @@ fn write_held<A: Allocator>(
     write_bytes(world, id, bytes, out)
 }
 
-/// Writes the value that the bytes of a fact mean, and what stands between two facts. Where there are no bytes, their
-/// type needs no look-up.
+/// Writes the value that the bytes of a fact mean, and the separator of facts. Where there are no bytes, their type
+/// needs no look-up.
 #[inline(always)]
 fn write_bytes<A: Allocator>(
     world: &World<A>,
@@ -111,7 +111,7 @@ fn write_bytes<A: Allocator>(
     }
 }
 
-/// Writes the value that bytes mean, and what stands between two facts.
+/// Writes the value that bytes mean, and the separator of facts.
 #[inline(always)]
 fn write_ended<A: Allocator>(
     schema: &Schema<A>,

@@ -1,6 +1,6 @@
 //! How entities, ids and the values of facts print: as the definitions of `ecs_model::Print` say.
 //!
-//! Each function writes behind what was written, and fails where memory is refused.
+//! Each function appends to what was written, and fails where memory is refused.
 #![tactic(auto)]
 
 mod digits;

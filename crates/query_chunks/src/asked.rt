@@ -88,7 +88,7 @@ pub(crate) fn outer_item<B: Allocator>(pieces: &[Piece<B>], number: usize) -> Op
     None
 }
 
-/// How many items are passed over behind one more.
+/// How many items are left to pass over after one more.
 fn left_behind(depth: usize, left: usize) -> usize
     ensures { result ≡ (if depth == 0 then left - 1 else left) }
 {

@@ -47,7 +47,8 @@ HasBannedCycle ids = (r : ℕ) × (is_held (ids r) (plain acyclic) ≡ true) × 
 abbrev pub FreshAreAcyclic : List ℕ → (ℕ → List Id) → Key → Type 0
 FreshAreAcyclic entities ids k = (r : ℕ) → IsAdded ids k (r, plain acyclic) → (is_held (ids r) (plain acyclic) ≡ true) ⊎ (is_used ids entities r ≡ false)
 
--- the answer to whether these close a cycle tells, for each fact of e with which they come, whether an acyclic relationship has a cycle afterwards, where none had one before
+-- the answer to whether these close a cycle says, for each fact of e with which they come, whether an acyclic
+-- relationship has a cycle afterwards, where none had one before
 abbrev pub TellsCycles : List ℕ → (ℕ → List Id) → ℕ → List Key → Type 0 → Type 0
 TellsCycles entities ids e ks Closes = (i : Id) (after : ℕ → List Id) → ((z : Key) → Contains ks z ↔ IsAdded ids (e, i) z) → IsAfterAdding ids (e, i) after → FreshAreAcyclic entities ids (e, i) → ¬ (HasBannedCycle ids)
     → Closes ↔ HasBannedCycle after

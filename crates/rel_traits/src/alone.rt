@@ -17,7 +17,7 @@ use ecs_model::FactKey;
 use ecs_model::built_ins::{IS_A, WITH};
 use rel_travel::{Graph, Holders, may_be_target, target_under};
 
-/// What comes and goes with an added fact, as far as it is seen.
+/// What comes and goes with an added fact, as far as it is known.
 #[derive(Clone, Copy, Debug, PartialEq, Eq)]
 pub enum Arrival {
     /// No other comes, and none goes.
@@ -34,7 +34,7 @@ struct Several;
 /// How a fact comes. One that comes alone, or in the place of another, is no trait, brings no other, copies nothing,
 /// and closes no cycle.
 ///
-/// Of some facts that come alone or in a place it isn't seen: of one whose relationship leads to the entity, and of a
+/// Some facts that come alone or in a place aren't seen to do so: one whose relationship leads to the entity, and a
 /// pair of IsA where the entity has all that its base could give. It takes time in the ids of the fact's component or
 /// relationship, in those of its entity where that is exclusive, and in those of a base.
 pub fn arrival_of<G: Holders>(graph: &G, fact: FactKey) -> Arrival

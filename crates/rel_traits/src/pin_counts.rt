@@ -11,7 +11,7 @@ use std::marker::Model;
 /// that was covered, and fills it up to the greatest whose count was kept.
 #[derive(Drop)]
 pub struct PinCounts<A: Allocator = Global> {
-    // by index; each that would stand behind them is 0
+    // by index; each after them is 0
     counts: Vec<u64, A>,
     // how many indexes are covered: there is room for so many counts
     reach: usize,
@@ -83,7 +83,7 @@ impl<A: Allocator> PinCounts<A> {
     }
 }
 
-// Puts counts of 0 behind the others until there is one at a place, for which there is room.
+// Appends counts of 0 until there is one at a place, for which there is room.
 fn fill<A: Allocator>(counts: &mut Vec<u64, A>, place: usize)
     requires { place < vec_capacity counts.old }
     ensures within { place < length counts.new.items }

@@ -7,7 +7,7 @@ use Rattle.script_streams.specs.Streams.{IsCalm, IsFaulty}
 use Rattle.world_query.specs.declared.sending.SendError.{SendError}
 use Rattle.world_query.specs.declared.sending.SendError.TheVariants.{Memory, Write}
 
--- the text was put behind what the list held, and the writer has taken a front of that
+-- the text was appended to what the list held, and the writer has taken a prefix of that
 pub record IsSent (old new : Option (List ℕ)) (before after text : List ℕ) : Type 0 where
   pub sent : List ℕ
   pub wrote : Appends old new sent
@@ -21,7 +21,8 @@ IsMemory Write = ⊥
 abbrev pub IsRefused : {T : Type 0} → Result T SendError → Type 0
 IsRefused r = IsErrAnd r IsMemory
 
--- a front of the text was put behind what the list held. The writer has taken some of that, which has left the list, and in a write that failed a part more, with which the list begins: none where memory was refused
+-- a prefix of the text was appended to what the list held. The writer has taken some of that, which has left the list,
+-- and in a write that failed a part more, with which the list begins: none where memory was refused
 pub record StopsSending (refused : Type 0) (old new : Option (List ℕ)) (before after text : List ℕ) : Type 0 where
   pub sent : List ℕ
   pub part : List ℕ

@@ -13,7 +13,7 @@ use ecs_schema::Schema;
 use ecs_world::World;
 use std::alloc::{AllocError, Allocator};
 
-/// A text with room behind it, as a sheet likes it: the first `count` bytes are the text.
+/// A text with room after it, as a sheet needs it: the first `count` bytes are the text.
 #[derive(Drop)]
 pub(crate) struct PaddedText<B: Allocator> {
     pub(crate) bytes: Vec<u8, B>,
@@ -21,7 +21,7 @@ pub(crate) struct PaddedText<B: Allocator> {
 }
 
 /// An entity by its index, with its text: the first `alone` bytes. With the bracket that closes a field it is the first
-/// `closed`, and with the end of the line behind that the first `ended`. Of nobody yet, it has no bytes.
+/// `closed`, and with the end of the line after that the first `ended`. Of nobody yet, it has no bytes.
 #[derive(Drop)]
 pub(crate) struct EntityText<B: Allocator> {
     pub(crate) index: u64,
@@ -31,7 +31,7 @@ pub(crate) struct EntityText<B: Allocator> {
     pub(crate) ended: usize,
 }
 
-/// In place of an index: above that of any entity, so one comparison tells whose a text is.
+/// In place of an index: above that of any entity, so one comparison decides whose a text is.
 const NOBODY: u64 = 1 << 32;
 
 /// An id with what all fields of it share: how they begin, ` [ID@`, and the fields of its values. Of no id yet, it has
@@ -70,7 +70,7 @@ impl<B: Allocator> PaddedText<B> {
         Ok(piece)
     }
 
-    /// Takes all that was written as its text, and makes room behind.
+    /// Takes all that was written as its text, and makes room after it.
     fn close(&mut self) -> Result<(), AllocError>
         ensures { OnOk result (text_of self.new ≡ ((self.old).bytes).items) }
     {
@@ -138,7 +138,7 @@ impl<B: Allocator> EntityText<B> {
         self.ended = count + 2;
     }
 
-    /// How many bytes are the text with the bracket that closes a field, and the end of the line behind the last one.
+    /// How many bytes are the text with the bracket that closes a field, and after the last one the end of the line.
     #[inline(always)]
     pub(crate) fn closing<A: Allocator>(&self, world: &World<A>, is_last: bool) -> usize
         requires { IsEntityText world.now.state self.now }
@@ -148,7 +148,7 @@ impl<B: Allocator> EntityText<B> {
         if is_last { self.ended } else { self.closed }
     }
 
-    /// Becomes the text of an entity, and makes room behind.
+    /// Becomes the text of an entity, and makes room after it.
     #[inline(never)]
     fn rewrite<A: Allocator>(&mut self, world: &World<A>, index: u32) -> Result<(), AllocError>
         ensures index { OnOk result (self.new.index ≡ index) }
