@@ -35,13 +35,14 @@ abbrev pub session_error : CommandError → SessionError
 session_error (world.Refused reason) = Refused (OfWorld reason)
 session_error world.Memory = Memory
 
--- a call answers as the session does and leaves what it says: an accepted one answers the entity born, a refusal leaves the session as it was, and so does refused memory, which may stand in place of any answer
+-- a call answers as the session does and leaves what it says: an accepted one answers the entity born. A refusal leaves
+-- the session as it was, and so does refused memory, which may stand in place of any answer
 abbrev pub AnswersApply : Result (Option EntityId) SessionError → Answer → Standing → Standing → Type 0
 AnswersApply (Ok born) applied old new = applied ≡ Ok (session_of new, born)
 AnswersApply (Err (Refused reason)) applied old new = (applied ≡ Err reason) × (session_of new ≡ session_of old)
 AnswersApply (Err Memory) applied old new = session_of new ≡ session_of old
 
--- what waits after an accepted command: what it has changed, if a stored query is told of commands
+-- what waits after an accepted command: what it has changed, if a stored query is notified of commands
 abbrev pub awaited : List Held → Changed → Option Changed
 awaited stored changed = if list_any (λ h. is_told h.kind) stored then Some changed else None
 
@@ -50,13 +51,15 @@ abbrev pub AnswersCommand : List Held → Option Changed → Result Changed Comm
 AnswersCommand stored before (Ok changed) answer after = (answer ≡ Ok changed.born) × (after ≡ awaited stored changed)
 AnswersCommand stored before (Err error) answer after = (answer ≡ Err (session_error error)) × (after ≡ before)
 
--- the rows of a kept query were written behind what was there, or a front of them where memory was refused; or there is none of the name and nothing was
+-- the rows of a kept query were appended to what was there, or a prefix of them where memory was refused; or there is
+-- none of the name and nothing was
 abbrev pub AnswersRows : {T : Type 0} → Result T SessionError → SessionState → List ℕ → List ℕ → List ℕ → Type 0
 AnswersRows (Ok _) s name before after = (q : _) × (kept_query s name ≡ Ok q) × (after ≡ before ++ rows_text s.world q)
 AnswersRows (Err (Refused reason)) s name before after = (kept_query s name ≡ Err reason) × (after ≡ before)
 AnswersRows (Err Memory) s name before after = (q : _) × (kept_query s name ≡ Ok q) × StopsWithin before after (rows_text s.world q)
 
--- the rows of a kept query were put behind what was there, and a front of all that may be sent; or there is none of the name, and nothing was
+-- the rows of a kept query were appended to what was there, and a prefix of all that may be sent; or there is none of
+-- the name, and nothing was
 abbrev pub SendsKept : {T : Type 0} → ℕ → Result T SendRowsError → SessionState → List ℕ → Option (List ℕ) → Option (List ℕ) → List ℕ → List ℕ → Type 0
 SendsKept most (Ok _) s name old new before after = (q : _) × (kept_query s name ≡ Ok q) × IsSent old new before after (rows_text s.world q)
 SendsKept most (Err (rows.Refused reason)) s name old new before after = (kept_query s name ≡ Err reason) × (after ≡ before) × (new ≡ old)

@@ -27,7 +27,8 @@ AreSetIn i fs (e ∷ es) bytes s t =
 abbrev pub IsColumnSetIn : Standing → TableKey → Id → List ℕ → SessionState → Type 0
 IsColumnSetIn s k i bytes t = (a : _) × (fs : Schema) × (table_at (s.world).tables k ≡ Some a) × (type_of_id (s.world).state i ≡ Some fs) × AreSetIn i fs a.entities bytes (session_of s) t
 
--- why so many bytes are not set for the table under a key: each command is to be told where a stored query is a watch, and else the world judges
+-- why so many bytes are not set for the table under a key: a stored query is a watch, which is notified of each
+-- command; else as the world judges
 abbrev pub set_column_error : Standing → TableKey → Id → ℕ → Option SetColumnError
 set_column_error s k i n =
     if is_some s.waiting then Some EventsPending

@@ -62,7 +62,7 @@ ListsApply (InWorld order) r old new = new.stored ≡ old.stored
 ListsApply (session.Store kind n text) r old new = ListsOneMore r n old new × ((new.world).tables ≡ (old.world).tables)
 ListsApply (session.Drop n) r old new = ListsOneLess r n old new × ((new.world).tables ≡ (old.world).tables)
 
--- how often whole rows were taken
+-- how often monitors were evaluated
 abbrev pub CountsApply : {T E : Type 0} → SessionOrder → Result T E → Standing → Standing → Type 0
 CountsApply (InWorld order) r old new = new.compared ≡ old.compared
 CountsApply (session.Store kind n text) r old new = CountsStored r kind text old new

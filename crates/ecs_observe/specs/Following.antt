@@ -63,7 +63,8 @@ SyncsList (Err Memory) k q s list = k ≡ kind.Kept
 abbrev pub ReadsList : {A : Type 0} → Store → StoredQuery A → Type 0
 ReadsList s q = begins_with_this (q.plan).query (q.plan).steps ≡ true → (l : Kept) × (q.list ≡ Some l) × IsUpToDate (q.plan).query s l
 
--- a run of a plan that begins in these tables found the rows, with no more probes than the tables of this list allow; where no number is told, the plan begins elsewhere
+-- a run of a plan that begins in these tables found the rows, with no more probes than the tables of this list allow;
+-- where no number is given, the plan begins elsewhere
 abbrev pub FindsInList : world.Standing → Plan → Option Kept → Option ℕ → Type 0
 FindsInList w p list None = begins_with_this p.query p.steps ≡ false
 FindsInList w p list (Some probes) = (begins_with_this p.query p.steps ≡ true) × ((l : Kept) × (list ≡ Some l) × StaysInTables w p l.keys probes)

@@ -12,7 +12,7 @@ use Rattle.watch_stored.specs.Parts.{held_as, with_kept}
 abbrev pub held_of : {A : Type 0} → String A × StoredQuery A → Held
 held_of p = held_as (string_bytes p.0) p.1
 
--- stored queries with those of the one at a place, if there is one
+-- stored queries with these rows kept of the one at a place, if there is one
 abbrev pub with_kept_at : {A : Type 0} → ℕ → RowsAfter A → List (String A × StoredQuery A) → List (String A × StoredQuery A)
 with_kept_at n rows [] = []
 with_kept_at zero rows (e ∷ es) = (e.0, with_kept rows e.1) ∷ es
@@ -23,6 +23,6 @@ abbrev pub with_all_kept : {A : Type 0} → List (ℕ × RowsAfter A) → List (
 with_all_kept [] es = es
 with_all_kept (p ∷ placed) es = with_kept_at p.0 p.1 (with_all_kept placed es)
 
--- what is put, each behind the place of its query, is what is to be put of these stored queries, and no more
+-- what is put, each after the place of its query, is what is to be put of these stored queries, and no more
 abbrev pub ArePlaced : {A : Type 0} → (Held → Option (List ℕ)) → List (ℕ × RowsAfter A) → List (String A × StoredQuery A) → Type 0
 ArePlaced put placed es = map held_of (with_all_kept placed es) ≡ with_rows (map put (map held_of es)) (map held_of es)

@@ -11,7 +11,8 @@ use Rattle.watch_concerns.specs.Mentions.{times}
 use Rattle.watch_concerns.specs.Since.{IsAfter}
 use Rattle.watch_stored.specs.Held.{Held, IsHeld, IsNow, WasNow, is_searched, is_taken_whole, told_to}
 
--- a session: its world, the stored queries in the order of making, what was changed by a command whose events wait, and how often the whole rows of a monitor were taken
+-- a session: its world, the stored queries in the order of making, what was changed by a command whose events wait, and
+-- how often a monitor was evaluated
 pub record Standing : Type 0 where
   pub world : world.Standing
   pub stored : List Held
@@ -21,15 +22,15 @@ pub record Standing : Type 0 where
 abbrev pub stored_of : Held → Stored
 stored_of h = record { name = h.name; kind = h.kind; query = h.query }
 
--- whether the whole rows of some stored query are to be taken for what waits
+-- whether some stored query is to be searched for what waits
 abbrev pub has_searched : Standing → Bool
 has_searched s = option_map_or (λ changed. list_any (is_searched changed) s.stored) s.waiting false
 
--- of how many stored queries the whole rows may be taken for what waits
+-- how many stored queries may be evaluated for what waits
 abbrev pub searched_in : Standing → ℕ
 searched_in s = option_map_or (λ changed. count_by (is_searched changed) s.stored) s.waiting 0
 
--- of how many they are taken, whatever is found out about who may have moved
+-- how many are evaluated, whatever is found out about who may have moved
 abbrev pub taken_in : Standing → ℕ
 taken_in s = option_map_or (λ changed. count_by (is_taken_whole changed) s.stored) s.waiting 0
 
@@ -60,9 +61,9 @@ pub record IsSession (s : Standing) : Type 0 where
   pub few : length s.stored ≤ most_stored
   -- no two have one name
   pub once : AllPairs (λ a b. a.name ≢ b.name) s.stored
-  -- but while events wait, monitors were told all
+  -- but while events wait, monitors were notified of all
   pub now : s.waiting ≡ None → All (IsNow (s.world).state) s.stored
   -- what waits was changed by the command that left this world
   pub after : IfSome s.waiting (IsAfter (s.world).state)
-  -- and monitors were told all before it
+  -- and monitors were notified of all before it
   pub before : IfSome s.waiting (λ changed. All (WasNow (s.world).state changed) s.stored)

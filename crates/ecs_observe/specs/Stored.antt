@@ -32,10 +32,10 @@ is_watch_in b = is_told (b.value.value.value).kind
 pub record IsStored {A : Type 0} (s : StoredQueries A) : Type 0 where
   pub watched : IsWatched s.all
   pub fit : All IsFit (made_of s)
-  -- those that are told of commands
+  -- those that are notified of commands
   pub watches : s.watches ≡ count_by is_watch_in (made_of s)
 
--- a stored query is ready to be put behind the others, and listed already
+-- a stored query is ready to be put after the others, and listed already
 pub record IsOpened {A : Type 0} (s : StoredQueries A) (name : String A) (q : StoredQuery A) (r : String A × Boxed (StoredQuery A) A) : Type 0 where
   pub open_one : IsOpen s.all name (r.1).value.value r
   pub query : (r.1).value.value.value ≡ q

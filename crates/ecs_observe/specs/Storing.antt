@@ -26,7 +26,8 @@ AnswersWatched w kind text (Ok q) = (query_of w text ≡ Ok q) × (watched kind 
 AnswersWatched w kind text (Err (Refused reason)) = (f : Fault) × (reason ≡ Faulty f) × (watched_if_read kind (query_of w text) ≡ Err f)
 AnswersWatched w kind text (Err Memory) = ⊤
 
--- the whole rows that were taken for a new stored query of a kind, which this text asks, are counted; none were taken for one that was refused
+-- the evaluation for a new stored query of a kind, which this text asks, is counted; there was none for one that was
+-- refused
 abbrev pub CountsStored : {T E : Type 0} → Result T E → StoredKind → List ℕ → Standing → Standing → Type 0
 CountsStored (Ok _) kind text old new = (q : Query) → query_of (old.world).state text ≡ Ok q → new.compared ≡ counted_for kind q old.compared
 CountsStored (Err _) kind text old new = new.compared ≡ old.compared
@@ -38,6 +39,6 @@ with_pinned w q = record w { state = pinned_by w.state q.mentions }
 abbrev pub with_unpinned : world.Standing → Query → world.Standing
 with_unpinned w q = record w { state = unpinned_by w.state q.mentions }
 
--- a session with one stored query more, behind the others
+-- a session with one stored query more, after the others
 abbrev pub with_held : Standing → Held → Standing
 with_held s h = record s { world = with_pinned s.world h.query; stored = s.stored ++ h ∷ [] }

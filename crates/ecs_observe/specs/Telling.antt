@@ -1,4 +1,4 @@
--- What telling the events of a command needs of the entities that it touched.
+-- What the events of a command need of the entities that it touched.
 use Rattle.std.specs.Prelude.{ℕ, Bool, false, List, slice_get}
 use Rattle.std.specs.List.{list_any}
 use Rattle.std.specs.Option.{option_map_or}
@@ -7,10 +7,10 @@ use Rattle.ecs_observe.specs.Parts.{held_of}
 use Rattle.watch_stored.specs.Held.{is_told_locally}
 use Rattle.watch_stored.specs.declared.stored.StoredQuery.{StoredQuery}
 
--- whether a monitor at a place is told by the entities that a command touched
+-- whether the events of a monitor at a place follow from the entities that a command touched
 abbrev pub is_locally_at : {A : Type 0} → List (String A × StoredQuery A) → ℕ → Bool
 is_locally_at es i = option_map_or (λ e. is_told_locally (held_of e)) (slice_get es i) false
 
--- whether one at one of these places is
+-- whether those of one at one of these places do
 abbrev pub any_locally_at : {A : Type 0} → List (String A × StoredQuery A) → List ℕ → Bool
 any_locally_at es places = list_any (is_locally_at es) places

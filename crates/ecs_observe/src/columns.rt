@@ -11,12 +11,12 @@ use ecs_id::{Id, TableKey};
 use std::alloc::Allocator;
 
 impl<A: Allocator> Session<A> {
-    /// Sets the value of an id for each entity of a table, by row: the bytes of one value stand behind those of
-    /// another, as in the column of a chunk.
+    /// Sets the value of an id for each entity of a table, by row: the bytes of one value stand after those of another,
+    /// as in the column of a chunk.
     ///
     /// It is as one `set` of each of them in turn. So it is refused while events wait, and while a stored query is a
-    /// watch, which is told of each command; and else as the world refuses it. It looks nothing up for a row, and takes
-    /// no memory.
+    /// watch, which is notified of each command; and else as the world refuses it. It looks nothing up for a row, and
+    /// takes no memory.
     pub fn set_column(&mut self, key: TableKey, id: Id, bytes: &[u8]) -> Result<(), SetColumnError>
         ensures set { OnOk result (IsColumnSetIn self.old key id bytes.now (session_of self.new)) }
         ensures judged { MatchResult result (λ _. set_column_error self.old key id (length bytes.now) ≡ None)

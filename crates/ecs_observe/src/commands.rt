@@ -144,8 +144,8 @@ impl<A: Allocator + Copy> Session<A> {
     }
 }
 
-/// The answer to a command that the world has carried out or not. What it has changed waits if a stored query is told
-/// of it.
+/// The answer to a command that the world has carried out or not. What it has changed waits if a stored query is
+/// notified of it.
 #[inline(always)]
 fn answer<A: Allocator>(
     stored: &StoredQueries<A>,

@@ -19,10 +19,10 @@ pub enum SessionError {
 /// answered.
 #[derive(Clone, Copy, Debug, PartialEq, Eq, Error)]
 pub enum SetColumnError {
-    /// Events wait to be told.
+    /// Events wait to be delivered.
     #[error("events wait to be told")]
     EventsPending,
-    /// A stored query is a monitor or an event observer, which is told of each command.
+    /// A stored query is a monitor or an event observer, which is notified of each command.
     #[error("a stored query is told of each command")]
     Watched,
     /// The world refuses it.

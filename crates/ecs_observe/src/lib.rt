@@ -1,8 +1,8 @@
-//! A session: a world, the queries that are stored in it, and what monitors and event observers are told of its
-//! commands.
+//! A session: a world, the queries that are stored in it, and what monitors and event observers are notified of after
+//! its commands.
 //!
-//! After an accepted command of the world events wait, if a stored query is a watch, and no other command is carried
-//! out before `events` has told them.
+//! If a stored query is a watch, events wait after an accepted command of the world, and no other command is carried
+//! out before `events` has delivered them.
 #![tactic(auto)]
 
 mod applying;

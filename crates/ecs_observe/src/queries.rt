@@ -24,11 +24,11 @@ use watch_index::{Boxed, Happened, WatchOrder, Watcher, occasions_of};
 use watch_stored::{RowsAfter, StoredQuery, is_told};
 use watch_touched::has_births_or_deaths;
 
-/// Stored queries in the order of making, with what each looks out for, and how many of them are told of commands.
+/// Stored queries in the order of making, with what each looks out for, and how many of them are notified of commands.
 #[derive(Drop)]
 pub(crate) struct StoredQueries<A: Allocator> {
     pub(crate) all: WatchOrder<StoredQuery<A>, A>,
-    /// How many are told of commands.
+    /// How many are notified of commands.
     watches: usize,
 }
 
@@ -43,8 +43,8 @@ impl<A: Allocator + Copy> StoredQueries<A> {
         }
     }
 
-    /// Makes a stored query ready to be put behind the others, and lists it for what it looks out for. Then it is put
-    /// or forgotten.
+    /// Makes a stored query ready to be put after the others, and lists it for what it looks out for. Then it is put or
+    /// forgotten.
     ///
     /// Fails where memory is refused, and then nothing has changed.
     pub(crate) fn prepare(
@@ -68,7 +68,7 @@ impl<A: Allocator + Copy> StoredQueries<A> {
     }
 
     /// Puts into an empty list the places of the stored queries that look out for something that a command did, in
-    /// order: no other is told anything.
+    /// order: no other is notified of anything.
     ///
     /// Fails where memory is refused.
     pub(crate) fn led(
@@ -102,7 +102,7 @@ impl<A: Allocator> StoredQueries<A> {
         self.all.order.len()
     }
 
-    /// Whether one of them is told of commands.
+    /// Whether one of them is notified of commands.
     pub(crate) fn has_watch(&self) -> bool
         requires stored { IsStored self.now }
         ensures { result ≡ list_any (λ query. is_told query.kind) (map (λ e. e.1) (entries_of self.now)) }
@@ -148,7 +148,7 @@ impl<A: Allocator> StoredQueries<A> {
         }
     }
 
-    /// Whether the one at a place is a monitor that is told by the entities that a command touched.
+    /// Whether the one at a place is a monitor whose events follow from the entities that a command touched.
     pub(crate) fn is_told_locally_at(&self, place: usize) -> bool
         ensures { result ≡ is_locally_at (entries_of self.now) place }
     {
@@ -158,7 +158,7 @@ impl<A: Allocator> StoredQueries<A> {
         }
     }
 
-    /// Puts a stored query that was made ready behind the others. None of them has its name.
+    /// Puts a stored query that was made ready after the others. None of them has its name.
     pub(crate) fn put(&mut self, key: String<A>, made: Boxed<StoredQuery<A>, A>)
         requires opened { IsOpened self.old made.value.name made.value.value.value (key, made) }
         requires free { lookup (is_key (string_bytes made.value.name)) (entries_of self.old) ≡ None }

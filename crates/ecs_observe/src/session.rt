@@ -16,14 +16,14 @@ use std::marker::Model;
 use watch_events::Event;
 use watch_stored::RowsAfter;
 
-/// A world, the queries that are stored in it, and what waits to be told to them.
+/// A world, the queries that are stored in it, and what they are yet to be notified of.
 pub struct Session<A: Allocator = Global> {
     pub(crate) world: World<A>,
     pub(crate) stored: StoredQueries<A>,
-    /// What the last accepted command has changed, until its events are told. It is there only while a stored query is
-    /// a watch.
+    /// What the last accepted command has changed, until its events are delivered. It is there only while a stored
+    /// query is a watch.
     pub(crate) waiting: Option<Changes<A>>,
-    /// How often the whole rows of a monitor were taken.
+    /// How often a monitor was evaluated.
     pub(crate) compared: u64,
     /// Room for the searches of monitors, of one after another.
     pub(crate) room: AskingRoom<A>,
@@ -118,19 +118,19 @@ impl<A: Allocator> Session<A> {
         &self.world
     }
 
-    /// How often the whole rows of a monitor were taken so far, to be compared with those before. It never falls, and
-    /// stays at its greatest number.
+    /// How often a monitor was evaluated so far, which finds all its rows. It never falls, and stays at its greatest
+    /// number.
     ///
-    /// Those of a monitor are taken when it is stored, and after commands that concern its query alone, unless the
-    /// facts that came and went tell its rows but for few entities, who are asked. Monitors of local queries never have
-    /// theirs taken: they are told by the entities that a command touched.
+    /// A monitor is evaluated when it is stored, and after commands that concern its query, unless its rows follow from
+    /// the facts that came and went, but for few entities, who are asked. Monitors of local queries never are: their
+    /// events follow from the entities that a command touched.
     pub fn compared(&self) -> u64
         ensures { result ≡ (self.now).compared }
     {
         self.compared
     }
 
-    /// Whether events wait to be told.
+    /// Whether events wait to be delivered.
     pub fn has_events(&self) -> bool
         ensures { result ≡ is_some (self.now).waiting }
     {

@@ -93,8 +93,8 @@ impl<A: Allocator + Copy> Session<A> {
         None
     }
 
-    /// Puts a stored query behind the others, under a name that none of them has. So often the whole rows of a monitor
-    /// were taken by then.
+    /// Puts a stored query after the others, under a name that none of them has. `compared` is how often a monitor was
+    /// evaluated by then.
     ///
     /// Fails where memory is refused, and then nothing has changed.
     fn hold(

@@ -1,4 +1,4 @@
--- Which stored queries may be told of a command.
+-- Which stored queries may be notified of a command.
 use Rattle.std.specs.Prelude.{Bool, true, false, List}
 use Rattle.std.specs.List.{list_any}
 use Rattle.query_model.specs.Query.{Query}
@@ -12,7 +12,7 @@ use Rattle.ecs_model.specs.stored.Watches.{matches_term}
 abbrev pub any_matches : Query → List Key → Bool
 any_matches q ks = list_any (λ k. matches_term q k.1) ks
 
--- whether a stored query of a kind may be told of what has changed
+-- whether a stored query of a kind may be notified of what has changed
 abbrev pub may_tell : Changed → StoredKind → Query → Bool
 may_tell c Kept q = false
 may_tell c Monitor q = true

@@ -1,4 +1,4 @@
--- What an observer with one term is told, by that term alone.
+-- What an observer with one term is notified of, by that term alone.
 use Rattle.std.specs.Prelude.{ℕ, Bool, not, ◌&&◌, ◌||◌, List, [], ℤ, Option, None}
 use Rattle.ecs_id.specs.Id.{Id, plain}
 use Rattle.query_model.specs.declared.query.Term.{Term}
@@ -15,16 +15,16 @@ module _ (held : ℕ → Id → Bool) where
   abbrev pub has_unasked : Term → ℕ → ℕ → Bool
   has_unasked t tag e = held e (plain tag) && not (asks_tag_of_this tag t)
 
-  -- whether an observer with the term is told of a fact
+  -- whether an observer with the term is notified of a fact
   abbrev pub tells : Term → Key → Bool
   tells t k = matches [] t.component t.target k.1 && not (has_unasked t prefab k.0 || has_unasked t disabled k.0)
 
--- the facts that are told as added, or as set
+-- the facts of events of addition, or of setting
 abbrev pub told_facts : Changed → EventKind → List Key
 told_facts c Written = c.written
 told_facts c kind = c.came
 
--- the value that is told of one
+-- the value in the event of one
 abbrev pub told_value : WorldState → EventKind → Key → Option (List ℤ)
 told_value w Written k = value_of w k.0 k.1
 told_value w kind k = None

@@ -1,4 +1,4 @@
--- What is told to a monitor.
+-- What a monitor is notified of.
 use Rattle.std.specs.Prelude.{ℕ, List, ◌++◌, map}
 use Rattle.ecs_model.specs.steps.Outcomes.{Changed}
 use Rattle.ecs_model.specs.declared.watches.EventKind.TheVariants.{Entered}

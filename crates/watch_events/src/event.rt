@@ -14,7 +14,7 @@ use itoa::Buffer;
 use std::alloc::{AllocError, Allocator, Global};
 use std::marker::Model;
 
-/// What a stored query is told: that an entity left or entered its rows, or that a fact was added, removed or set.
+/// What a stored query is notified of: an entity left or entered its rows, or a fact was added, removed or set.
 #[derive(Drop)]
 pub struct Event<A: Allocator = Global> {
     pub(crate) kind: EventKind,
@@ -43,7 +43,7 @@ impl<A: Allocator> Model for Event<A> {
 }
 
 impl<A: Allocator> Event<A> {
-    /// The name of the stored query that is told.
+    /// The name of the stored query that is notified.
     pub fn watch(&self) -> &[u8]
         ensures { result.now ≡ (self.now).watch }
     {
@@ -79,7 +79,7 @@ impl<A: Allocator> Event<A> {
     }
 }
 
-/// Puts an event behind others. Most commands tell one alone, for which no more room is made.
+/// Appends an event. Most commands have one alone, for which no more room is made.
 #[inline(always)]
 pub(crate) fn push_event<A: Allocator>(
     event: Event<A>,
@@ -98,7 +98,7 @@ pub(crate) fn push_event<A: Allocator>(
 /// Writes the line of an event: its word, the name of the stored query, the entity, and the fact with the value that
 /// was set.
 ///
-/// Fails where memory is refused, and then a front of the line may be written.
+/// Fails where memory is refused, and then a prefix of the line may be written.
 pub fn write_event<A: Allocator>(event: &Event<A>, out: &mut Vec<u8, A>) -> Result<(), AllocError>
     ensures { OnOk result (out.new.items ≡ out.old.items ++ event_text event.now) }
 {
@@ -111,7 +111,7 @@ pub fn write_event<A: Allocator>(event: &Event<A>, out: &mut Vec<u8, A>) -> Resu
     Ok(())
 }
 
-/// The word of a kind, with the space behind it.
+/// The word of a kind, with the space after it.
 fn word(kind: EventKind) -> &'static [u8]
     ensures { result.now ≡ event_word kind }
 {
@@ -151,7 +151,7 @@ fn write_numbers<A: Allocator>(numbers: &[i128], out: &mut Vec<u8, A>) -> Result
     write_others(others, out)
 }
 
-/// Writes numbers, each behind a comma.
+/// Writes numbers, each after a comma.
 fn write_others<A: Allocator>(numbers: &[i128], out: &mut Vec<u8, A>) -> Result<(), AllocError>
     ensures { OnOk result (out.new.items ≡ out.old.items ++ flat_map behind_comma numbers.now) }
 {

@@ -1,4 +1,4 @@
-//! What observers are told of facts that came or were set.
+//! What observers are notified of facts that came or were set.
 
 ghost use Rattle.std.specs.Prelude.{◌≡◌, ◌++◌, IfOk, OnErr, OnOk, filter, map};
 ghost use Rattle.ecs_id.specs.Id.{IsIndex};
@@ -21,8 +21,8 @@ use ecs_world::{Changes, World};
 use query_model::query::Term;
 use std::alloc::{AllocError, Allocator};
 
-/// Tells an observer of the facts that came, or of those that were set, by the world after the command: each that its
-/// term matches, and whose entity it doesn't pass over.
+/// Notifies an observer of the facts that came, or of those that were set, by the world after the command: each that
+/// its term matches, and whose entity it doesn't pass over.
 pub(crate) fn tell_facts<A: Allocator + Copy>(
     alloc: A,
     world: &World<A>,
@@ -63,7 +63,7 @@ fn told_facts<A: Allocator>(changes: &Changes<A>, kind: EventKind) -> &[FactKey]
     }
 }
 
-/// Whether an observer with this term is told of a fact. Few facts match, so the id is looked at first.
+/// Whether an observer with this term is notified of a fact. Few facts match, so the id is looked at first.
 fn tells<A: Allocator>(world: &World<A>, term: &Term, fact: FactKey) -> bool
     ensures { result ≡ tells (holds world.now.state) term.now fact }
 {

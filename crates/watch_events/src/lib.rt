@@ -1,4 +1,4 @@
-//! What stored queries are told of a command: events, each with the texts by which it prints.
+//! What stored queries are notified of after a command: events, each with the texts by which it prints.
 #![tactic(auto)]
 
 mod before;

@@ -1,4 +1,4 @@
-//! What observers are told of facts that went.
+//! What observers are notified of facts that went.
 
 ghost use Rattle.std.specs.Prelude.{◌≡◌, ◌++◌, IfOk, OnErr, OnOk, filter, map};
 ghost use Rattle.ecs_id.specs.Id.{IsIndex};
@@ -19,7 +19,7 @@ use ecs_world::{Changes, World};
 use query_model::query::Term;
 use std::alloc::{AllocError, Allocator};
 
-/// Tells an observer of the facts that went: each that its term matches, and whose entity it didn't pass over before
+/// Notifies an observer of the facts that went: each that its term matches, and whose entity it didn't pass over before
 /// the command.
 pub(crate) fn tell_removals<A: Allocator + Copy>(
     alloc: A,
@@ -51,7 +51,7 @@ pub(crate) fn tell_removals<A: Allocator + Copy>(
     Ok(())
 }
 
-/// Whether an observer with this term is told that a fact went. Few facts match, so the id is looked at first.
+/// Whether an observer with this term is notified that a fact went. Few facts match, so the id is looked at first.
 fn tells_before<A: Allocator>(
     world: &World<A>,
     changes: &Changes<A>,

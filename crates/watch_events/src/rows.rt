@@ -1,4 +1,4 @@
-//! What monitors are told: the entities that have left their rows, and those that have entered them.
+//! What monitors are notified of: the entities that have left their rows, and those that have entered them.
 
 ghost use Rattle.std.specs.Prelude.{◌≡◌, ◌++◌, ◌∷◌, [], OnErr, OnOk, map};
 ghost use Rattle.ecs_model.specs.declared.watches.EventKind.TheVariants.{Entered};
@@ -22,10 +22,10 @@ pub struct Moves<'m> {
     pub entered: &'m [u32],
 }
 
-/// Puts what a monitor is told behind other events, where it is known who has left its rows and who has entered them.
-/// Those who left come first.
+/// Appends the events of a monitor, where it is known who has left its rows and who has entered them. Those who left
+/// come first.
 ///
-/// Fails where memory is refused, and then the first of these may stand behind the others.
+/// Fails where memory is refused, and then the first of these may stand after the others.
 pub fn tell_moves<A: Allocator + Copy>(
     alloc: A,
     world: &World<A>,
@@ -44,7 +44,7 @@ pub fn tell_moves<A: Allocator + Copy>(
     tell_each_entered(alloc, world, name, moves.entered, events)
 }
 
-/// Tells a monitor of each that has left.
+/// Notifies a monitor of each that has left.
 fn tell_each_left<A: Allocator + Copy>(
     alloc: A,
     world: &World<A>,
@@ -65,7 +65,7 @@ fn tell_each_left<A: Allocator + Copy>(
     Ok(())
 }
 
-/// Tells a monitor of each that has entered.
+/// Notifies a monitor of each that has entered.
 fn tell_each_entered<A: Allocator + Copy>(
     alloc: A,
     world: &World<A>,
@@ -84,7 +84,7 @@ fn tell_each_entered<A: Allocator + Copy>(
     Ok(())
 }
 
-/// Tells a monitor of one that has left, by the names before the command.
+/// Notifies a monitor of one that has left, by the names before the command.
 // (the event is made where it stands, as a move of it takes more than all else)
 #[inline(always)]
 fn push_left<A: Allocator + Copy>(
@@ -116,7 +116,7 @@ fn push_left<A: Allocator + Copy>(
     )
 }
 
-/// Tells a monitor of one that has entered.
+/// Notifies a monitor of one that has entered.
 #[inline(always)]
 fn push_entered<A: Allocator + Copy>(
     alloc: A,

@@ -1,4 +1,4 @@
--- What is held of a stored query, and what it is told of a command.
+-- What is held of a stored query, and what it is notified of after a command.
 use Rattle.std.specs.Prelude.{◌≡◌, ℕ, ◌+◌, ◌*◌, ◌<◌, ◌≤◌, min, Bool, true, false, not, ◌&&◌, List, [], Option, Some, None, Ok, if◌then◌else◌}
 use Rattle.std.specs.List.Sorted.{IsStrictlyIncreasing}
 use Rattle.query_cache.specs.Kept as cache
@@ -17,7 +17,9 @@ use Rattle.watch_touched.specs.Concerned.{is_concerned}
 use Rattle.watch_touched.specs.Moving.{finds_moving}
 use Rattle.watch_concerns.specs.Since.{told_since}
 
--- a stored query as it is held: a monitor with the entities of its rows as they were told last, unless its query is local; a kept query with the list of its tables; the steps by which its rows are found; and the serial of the newest table when they were planned
+-- a stored query as it is held: a monitor with the entities of its rows by its last events, unless its query is local;
+-- a kept query with the list of its tables; the steps by which its rows are found; and the serial of the newest table
+-- when they were planned
 pub record Held : Type 0 where
   pub name : List ℕ
   pub kind : StoredKind
@@ -39,19 +41,19 @@ abbrev pub is_monitor : StoredKind → Bool
 is_monitor Monitor = true
 is_monitor kind = false
 
--- whether it is a monitor of a local query, which is told by the entities that a command touched
+-- whether it is a monitor of a local query, whose events follow from the entities that a command touched
 abbrev pub is_told_locally : Held → Bool
 is_told_locally h = is_monitor h.kind && is_local h.query
 
--- whether it is a monitor of another query, whose whole rows are compared
+-- whether it is a monitor of another query, which is re-evaluated
 abbrev pub is_compared : Held → Bool
 is_compared h = is_monitor h.kind && not (is_local h.query)
 
--- whether its rows are searched for after a command: it is compared, and the command concerns its query
+-- whether its rows are searched for after a command: it is such a monitor, and the command concerns its query
 abbrev pub is_searched : Changed → Held → Bool
 is_searched changed h = is_compared h && is_concerned h.query changed
 
--- whether it can't be told, too, who may have moved in or out of its rows, so that all of them are taken and compared
+-- whether they are, and who may have moved in or out of them can't be found, so that the monitor is re-evaluated
 abbrev pub is_taken_whole : Changed → Held → Bool
 is_taken_whole changed h = is_searched changed h && not (finds_moving h.query changed)
 
@@ -59,7 +61,7 @@ is_taken_whole changed h = is_searched changed h && not (finds_moving h.query ch
 abbrev pub rows_before : WorldState → Changed → Held → List ℕ
 rows_before w changed h = if is_local h.query then matching (view_before w changed) h.query else h.these
 
--- what a stored query is told of what has changed
+-- what a stored query is notified of after what has changed
 abbrev pub told_to : WorldState → Changed → Held → List Event
 told_to w changed h = told_since w changed h.name h.kind h.query (rows_before w changed h)
 
@@ -68,11 +70,12 @@ abbrev pub rows_of : WorldState → StoredKind → Query → List ℕ
 rows_of w Monitor q = if is_local q then [] else matching (view_of w) q
 rows_of w kind q = []
 
--- how often whole rows were taken, once what is held of them is found: for a monitor whose query isn't local once more. It stays at its greatest number
+-- how often monitors were evaluated, once what is held of a stored query's rows is found: for a monitor whose query
+-- isn't local once more. It stays at its greatest number
 abbrev pub counted_for : StoredKind → Query → ℕ → ℕ
 counted_for kind q n = if is_monitor kind && not (is_local q) then min (n + 1) 18446744073709551615 else n
 
--- what is put in their place after a command: where the whole rows are taken, their entities
+-- what is put in their place after a command: where the monitor is re-evaluated, the entities of all rows
 abbrev pub rows_put : WorldState → Changed → Held → Option (List ℕ)
 rows_put w changed h = if is_searched changed h then Some (matching (view_of w) h.query) else None
 

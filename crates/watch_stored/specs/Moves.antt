@@ -1,4 +1,4 @@
--- What is told of who may have moved in or out of the rows of a monitor.
+-- What is known of who may have moved in or out of the rows of a monitor.
 use Rattle.std.specs.Prelude.{◌≡◌, ◌==◌, ◌&&◌, ℕ, Bool, List, [], None, is_none, not}
 use Rattle.std.specs.List.{list_any}
 use Rattle.ecs_model.specs.steps.Outcomes.{Changed}
@@ -19,7 +19,7 @@ leaves before now e = is_among before e && not (is_among now e)
 abbrev pub enters : List ℕ → List ℕ → ℕ → Bool
 enters before now e = is_among now e && not (is_among before e)
 
--- whether its ids don't tell whether an entity is in the rows
+-- whether an entity's ids don't decide whether it is in the rows
 abbrev pub is_untold : Query → WorldState → ℕ → Bool
 is_untold q w e = is_none (told_by_ids q w e)
 
@@ -29,6 +29,6 @@ pub record AreNoMoves {A : Type 0} (rows : RowsAfter A) : Type 0 where
   pub entered : rows.entered.items ≡ []
   pub these : rows.these ≡ None
 
--- a command has left this world and had these rows before it, and so it is told of these who may have moved
+-- a command has left this world, a monitor had these rows before it, and these are known to be all who may have moved
 abbrev pub IsTold : Query → WorldState → List ℕ → List ℕ → Type 0
 IsTold q w before moving = (changed : Changed) × (before ≡ matching (view_before w changed) q) × AreAllMoved q w changed moving

@@ -1,4 +1,4 @@
--- What telling a monitor needs of the entities that a command touched.
+-- What the events of a monitor need of the entities that a command touched.
 use Rattle.std.specs.Prelude.{List, map}
 use Rattle.std.specs.List.Sorted.{IsStrictlyIncreasing}
 use Rattle.ecs_model.specs.steps.Outcomes.{Changed}

@@ -1,4 +1,4 @@
--- What the bonds of a query's variables tell, which is asked at each command.
+-- How a query's variables are bound, which is asked at each command.
 use Rattle.watch_concerns.specs.Anchored.{is_anchored}
 use Rattle.watch_concerns.specs.Linked.{is_linked}
 use Rattle.watch_concerns.specs.Tied.{is_tied}

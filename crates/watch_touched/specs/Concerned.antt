@@ -11,10 +11,10 @@ use Rattle.query_model.specs.Query.{Query}
 abbrev pub any_concerns : Query → List Key → Bool
 any_concerns q ks = list_any (λ k. concerns q k.1) ks
 
--- whether somebody was born or died
+-- whether an entity was born or died
 abbrev pub has_births_or_deaths : Changed → Bool
 has_births_or_deaths changed = is_some changed.born || not (length changed.died == 0)
 
--- whether a fact came or went that does, or somebody was born or died and the query isn't anchored
+-- whether a fact came or went that does, or an entity was born or died and the query isn't anchored
 unfoldable pub is_concerned : Query → Changed → Bool
 is_concerned q changed = (has_births_or_deaths changed && not (is_anchored q)) || any_concerns q changed.came || any_concerns q changed.went

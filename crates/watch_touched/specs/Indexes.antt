@@ -1,4 +1,4 @@
--- Which entities a command touches, and what is told of each.
+-- Which entities a command touches, and what it did to each.
 use Rattle.std.specs.Prelude.{ℕ, List, ◌++◌, map, option_map}
 use Rattle.std.specs.List.{cons_option}
 use Rattle.ecs_model.specs.steps.Outcomes.{Changed}

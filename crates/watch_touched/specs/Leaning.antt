@@ -18,11 +18,12 @@ use Rattle.table_store.specs.Store.{Store, table_at}
 use Rattle.watch_touched.specs.declared.sought.Sought.{Sought}
 use Rattle.watch_touched.specs.declared.sought.Sought.TheVariants.{Moving, Below}
 
--- whether an id concerns a query for somebody else than its holder
+-- whether an id concerns a query for another entity than its holder
 abbrev pub concerns_beyond : Query → Id → Bool
 concerns_beyond q i = concerns_below q i || concerns_others q i
 
--- whether whoever holds these ids may move by a fact of the target of one of them, a pair: it concerns the query, and the ids don't lack what that asks of `$this` itself
+-- whether an entity that holds these ids may move by a fact of the target of one of them, a pair: it concerns the
+-- query, and the ids don't lack what that asks of `$this` itself
 abbrev pub moves_by : Query → List Id → Id → Bool
 moves_by q ids i = concerns q i && not (lacks q ids)
 
@@ -69,7 +70,7 @@ pub record IsClosed (next : ℕ → List ℕ) (start all : List ℕ) : Type 0 wh
   pub begun : (x : ℕ) → Contains start x → Contains all x
   pub stepped : (x y : ℕ) → Contains all x → Contains (next x) y → Contains all y
 
--- a list has more behind it than before, and has all that are wanted
+-- a list has grown at its end, and has all that are wanted
 pub record Adds (wanted before after : List ℕ) : Type 0 where
   pub more : List ℕ
   pub behind : after ≡ before ++ more

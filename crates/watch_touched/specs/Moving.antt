@@ -1,4 +1,4 @@
--- Who may move in or out of a query's rows by a command, and whether ids tell that one is in them.
+-- Who may move in or out of a query's rows by a command, and whether an entity's ids decide that it is in them.
 use Rattle.std.specs.Prelude.{◌↔◌, ℕ, Bool, true, false, not, ◌&&◌, ◌||◌, List, ◌++◌, Option, None, Some, filter, map, if◌then◌else◌}
 use Rattle.std.specs.List.{Contains, list_any}
 use Rattle.std.specs.List.Sorted.{IsStrictlyIncreasing}
@@ -64,7 +64,8 @@ module _ (q : Query) (w : WorldState) where
     pub are_targets : AreTargets changed targets
     pub held : (x e : ℕ) → Contains targets x → Contains (leaning (moves_by q) w x) e → Contains es e
 
-  -- whether an entity is `$this` of a row, as its ids tell: nobody is who doesn't live, or lacks what is asked of `$this` itself; and whoever meets all that is asked by its ids alone is. Of others they don't tell
+  -- whether an entity is `$this` of a row, where its ids decide: one that isn't live, or lacks what is asked of `$this`
+  -- itself, is none; one that meets all that is asked by its ids alone is. Of others it isn't decided
   abbrev pub told_by_ids : ℕ → Option Bool
   told_by_ids e = if not (is_live w e) || lacks q (ids_of w e) then Some false else (if meets q (ids_of w e) then Some true else None)
 
@@ -73,6 +74,6 @@ module _ (q : Query) (w : WorldState) where
     pub ascend : IsStrictlyIncreasing all
     pub others_stay : (e : ℕ) → (Contains all e → ⊥) → Contains (matching (view_before w changed) q) e ↔ Contains (matching (view_of w) q) e
 
--- so many are told at most
+-- so many are found at most
 abbrev pub most_moving : ℕ
 most_moving = 64

@@ -1,4 +1,5 @@
--- Back along one step, by which a term leads from the entity of a variable to that of one after it, as what is kept of a query judges it; and all who may be `$this` behind an entity.
+-- Back along one step, by which a term leads from the entity of a variable to that of one after it, as what is kept of
+-- a query judges it; and all who may be `$this` from whom an entity is reached.
 use Rattle.std.specs.Prelude.{ℕ, ◌==◌, Bool, true, not, ◌&&◌, ◌||◌, List, [], ◌++◌, filter, flat_map, map, if◌then◌else◌}
 use Rattle.component_index.specs.Patterns.{matches}
 use Rattle.ecs_id.specs.Id.{Id}
@@ -39,15 +40,15 @@ module _ (q : Query) (w : WorldState) where
   step_back others went s y = if s.outward then leaning (leads_by q others went s) w y else targets_back went s y
 
 module _ (q : Query) (w : WorldState) (changed : Changed) where
-  -- who may be `$this` behind an entity as that of a variable, in at most so many steps
+  -- who may be `$this` from whom an entity as that of a variable is reached, in at most so many steps
   abbrev pub found_behind : ℕ → ℕ → ℕ → List ℕ
   found_behind n v y = this_among q w (λ v t. true) changed (roles_behind q w (λ v t. true) changed n v y)
 
-  -- and behind the holder of a fact, as each variable for which it counts
+  -- from whom the holder of a fact is reached, as each variable for which it counts
   abbrev pub found_from : {A : Type 0} → List (AskedOf A) → Key → List ℕ
   found_from others k = flat_map (λ a. if counts (ids_around w changed.went k.0) k.1 a then found_behind a.variable a.variable k.0 else []) others
 
-  -- behind the target of an id, if it is a pair by which the step may lead from that to the pair's holder
+  -- from whom the target of an id is reached, if it is a pair by which the step may lead from that to the pair's holder
   abbrev pub behind_target : ℕ → LinkStep → Id → List ℕ
   behind_target n s i = flat_map (found_behind n s.from) (target_of (matches s.asked) i)
 

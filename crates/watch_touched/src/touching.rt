@@ -40,7 +40,7 @@ pub fn touched<'w, A: Allocator + Copy>(
     Ok(touched)
 }
 
-/// What is told of one of these entities.
+/// One of these entities, with its ids before and after the command.
 fn touch<'w, A: Allocator + Copy>(
     alloc: A,
     world: &'w World<A>,
