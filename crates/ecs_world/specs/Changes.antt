@@ -1,4 +1,4 @@
--- What commands change, and what is told of it.
+-- What commands change, and what they answer of it.
 use Rattle.std.specs.List.{list_any}
 use Rattle.std.specs.Prelude.{◌≡◌, ℕ, ℤ, true, List, [], ◌∷◌, Contains, filter_map, fold, map, take, Option, Some, unwrap_or}
 use Rattle.ecs_id.specs.declared.EntityId.{EntityId}
@@ -16,11 +16,11 @@ use Rattle.ecs_world.specs.declared.changes.ChangeLists.{ChangeLists}
 use Rattle.ecs_world.specs.declared.changes.Told.{Told}
 use Rattle.ecs_world.specs.declared.changes.Told.TheVariants.{Nothing, Born, BornWith, Came, Went, Replaced, Written, CameWritten, Died, Lists}
 
--- what lists tell
+-- the changes in lists
 abbrev pub changed_in : {Y : Type 0} → ChangeLists Y → Changed
 changed_in l = record no_change { died = ((l.lists).value).died.items; came = ((l.lists).value).came.items; went = ((l.lists).value).went.items; written = listed ((l.lists).value).written }
 
--- what a command tells
+-- the changes of a command
 abbrev pub changed_by : {Y : Type 0} → Told Y → Changed
 changed_by Nothing = no_change
 changed_by (Born e) = birth e

@@ -19,7 +19,8 @@ use Rattle.ecs_world.specs.State.{byte_count, no_change}
 use Rattle.ecs_world.specs.declared.columns.ColumnFault.{ColumnFault}
 use Rattle.ecs_world.specs.declared.columns.ColumnFault.TheVariants.{Gone, NotHeld, NoData, Brings, Size, Full}
 
--- one `set` of each of these entities in turn, to the values that the bytes are, leads from a world to another: each is accepted, and tells of its value alone
+-- one `set` of each of these entities in turn, to the values that the bytes are, leads from a world to another: each is
+-- accepted, and has changed its value alone
 abbrev pub AreSet : Id → Schema → List EntityId → List ℕ → WorldState → WorldState → Type 0
 AreSet i fs [] bytes w v = v ≡ w
 AreSet i fs (e ∷ es) bytes w v =

@@ -104,7 +104,7 @@ pub record AreFactsOf (w : WorldState) (e : ℕ) (cells : Cells) : Type 0 where
   pub value : (i : Id) → option_map (value_in (type_of_id w i)) (value_at id_cmp cells i) ≡ value_of w e i
   pub size : (i : Id) → IfSome (value_at id_cmp cells i) (λ bytes. length bytes ≡ byte_count (type_of_id w i))
 
--- the front of a buffer has the bytes of a value
+-- the beginning of a buffer has the bytes of a value
 pub record IsEncoded (type : Option Schema) (vs : List ℤ) (size : ℕ) (buffer : List ℕ) : Type 0 where
   pub sized : size ≡ byte_count type
   pub some : 1 ≤ size

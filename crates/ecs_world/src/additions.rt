@@ -54,7 +54,7 @@ impl<A: Allocator + Copy> World<A> {
     }
 
     /// Why a fact of live entities is not added with what it brings, where nothing comes to what is built in. The world
-    /// stays as it is, and where memory is refused nothing is told.
+    /// stays as it is. Where memory is refused there is no answer.
     pub(crate) fn addition_refusal(
         &mut self,
         entity: EntityId,
@@ -115,8 +115,8 @@ impl<A: Allocator + Copy> World<A> {
         Ok(())
     }
 
-    /// Moves the rows for that: all that comes has zeros, copies too. What memory this takes is got before the first
-    /// row moves.
+    /// Moves the rows of what comes and goes: all that comes has zeros, copies too. What memory this takes is got
+    /// before the first row moves.
     fn bring_new(
         &mut self,
         entity: EntityId,

@@ -73,7 +73,7 @@ pub(crate) fn archetypes<A: Allocator + Copy>(
     Ok(archetypes)
 }
 
-/// Puts the next built-in entity into its table, after so many.
+/// Puts the next built-in entity into its table, where so many stand in theirs.
 fn settle<A: Allocator + Copy>(archetypes: &mut Archetypes<A>, settled: u32) -> Result<(), Memory>
     requires few { settled < 22 }
     requires before { IsSettled (holdings_of archetypes.old) settled }
@@ -119,7 +119,7 @@ fn settle<A: Allocator + Copy>(archetypes: &mut Archetypes<A>, settled: u32) -> 
     }
 }
 
-/// Puts the next built-in entity into the table of its ids, after so many.
+/// Puts the next built-in entity into the table of its ids, where so many stand in theirs.
 fn put<A: Allocator + Copy>(
     archetypes: &mut Archetypes<A>,
     settled: u32,

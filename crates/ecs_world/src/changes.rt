@@ -115,8 +115,8 @@ impl<A: Allocator> ChangeLists<A> {
     }
 }
 
-/// A fact that came, and the one that went in its place. (They stand in a block, since two facts would make what every
-/// command tells larger, and slower to hand on.)
+/// A fact that came, and the one that went in its place. (They stand in a block, since two facts would make the changes
+/// of every command larger, and slower to hand on.)
 #[derive(Drop)]
 pub(crate) struct Replaced {
     pub(crate) came: FactKey,
@@ -130,8 +130,8 @@ pub(crate) struct Fallen<A: Allocator> {
     pub(crate) went: Option<FactKey>,
 }
 
-/// What a command tells, which most of them tell of one fact or one entity without memory. What takes memory is made
-/// before the world changes.
+/// What a command has changed: mostly one fact or one entity, which takes no memory. What takes memory is made before
+/// the world changes.
 #[derive(Drop)]
 pub(crate) enum Told<A: Allocator> {
     Nothing,

@@ -44,8 +44,8 @@ pub enum ColumnFault {
 }
 
 impl<A: Allocator> World<A> {
-    /// Sets the value of an id for each entity of a table, by row: the bytes of one value stand behind those of
-    /// another, as in the column of a chunk.
+    /// Sets the value of an id for each entity of a table, by row: the bytes of one value stand after those of another,
+    /// as in the column of a chunk.
     ///
     /// It is as one `set` of each of them in turn, and counted as so many commands. It looks nothing up for a row, and
     /// takes no memory.

@@ -9,7 +9,7 @@
 //! world.entity("Frozen")?;
 //! let (position, frozen) = (Id::plain(64), Id::plain(65));
 //!
-//! // an entity with a value and a tag; each command tells what it has changed
+//! // an entity with a value and a tag; each command answers what it has changed
 //! if let Some(earth) = world.entity("Earth")?.born() {
 //!     world.set(earth, position, &[150, -3])?;
 //!     assert!(rt; world.add(earth, frozen)?.came().len() == 1);

@@ -71,8 +71,8 @@ impl<A: Allocator> World<A> {
         }
     }
 
-    /// Writes the bytes of a value of a fact that comes alone, of a live entity, to the front of the buffer, and tells
-    /// how many they are, or why it is not set.
+    /// Writes the bytes of a value of a fact that comes alone, of a live entity, to the beginning of the buffer, and
+    /// answers how many they are, or why it is not set.
     pub(crate) fn judge_single(
         &self,
         entity: EntityId,
@@ -159,8 +159,8 @@ impl<A: Allocator> World<A> {
         id.second().is_none() || !self.ids_at(id.first()).contains(&Id::plain(SYMMETRIC))
     }
 
-    /// Writes the bytes of a value to the front of the buffer, and tells how many they are, or why the numbers are no
-    /// value of the id.
+    /// Writes the bytes of a value to the beginning of the buffer, and answers how many they are, or why the numbers
+    /// are no value of the id.
     pub(crate) fn encode(
         &self,
         id: Id,

@@ -33,12 +33,12 @@ pub record IsDone (e : Effect) (session : SessionState) (before after : List ℕ
   pub printed : after ≡ before ++ e.printed
   pub answered : refused ≡ e.refused
 
--- of what a line prints and what stood before it, a front may have been sent: it is done, or it stopped at a fault
+-- of what a line prints and what stood before it, a prefix may have been sent: it is done, or it stopped at a fault
 abbrev pub Does : Effect → SessionState → Option (List ℕ) → Option (List ℕ) → List ℕ → List ℕ → Result Bool SendError → Type 0
 Does e session old new before after (Ok refused) = (sent : List ℕ) × Appends old new sent × IsDone e session before (sent ++ after) refused
 Does e session old new before after (Err error) = TakesFront old new (before ++ e.printed)
 
--- the writer has taken that front and no other byte, and none where so many bytes may stand
+-- the writer has taken that prefix and no other byte, and none where so many bytes may stand
 pub record DoesLine {W : Type 0} (e : Effect) (session : SessionState) (contents : W → Option (List ℕ)) (calls : W → Calls) (old new : W) (most : ℕ) (before after : List ℕ) (result : Result Bool SendError) : Type 0 where
   pub does : Does e session (contents old) (contents new) before after result
   pub writes : FailsAtWrite (calls old) result (calls new)

@@ -22,11 +22,12 @@ pub record HasRun (script printed : List ℕ) (summary : Summary) : Type 0 where
   pub few : summary.lines ≤ length script
   pub few_refused : summary.refused ≤ summary.lines
 
--- whatever stands behind these lines is run from this session on
+-- whatever stands after these lines is run from this session on
 abbrev pub GoesOn : List ℕ → SessionState → Summary → Type 0
 GoesOn whole s summary = (rest : List ℕ) → effects_of (whole ++ rest) ≡ effects_of whole ++ effects_from s (summary.lines + 1) rest
 
--- of the bytes that were read, the whole lines were run but for those in bytes that are unread, and what they printed was written but for the output
+-- of the bytes that were read, the whole lines were run but for those in bytes that are unread; what they printed was
+-- written, but for the output
 pub record IsRunning (told left old new : Option (List ℕ)) (held : Held) (session : SessionState) (summary : Summary) (output : List ℕ) : Type 0 where
   pub whole : List ℕ
   pub part : List ℕ

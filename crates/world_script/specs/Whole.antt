@@ -8,7 +8,7 @@ use Rattle.script_streams.specs.Streams.{IsCalm, IsFaulty, TakesFront}
 use Rattle.world_script.specs.declared.errors.RunError.{RunError}
 use Rattle.world_script.specs.declared.lines.Summary.{Summary}
 
--- the bytes, where they are told, are no more than a script may have
+-- the bytes, where they are known, are no more than a script may have
 abbrev pub FitsScript : Option (List ℕ) → Type 0
 FitsScript told = IfSome told (λ bytes. length bytes ≤ most_bytes)
 
@@ -24,7 +24,7 @@ IsCount told summary = IfSome told (λ script. (summary.lines, summary.refused) 
 abbrev pub EndsInFeed : List ℕ → Type 0
 EndsInFeed bytes = (bytes ≡ []) ⊎ ((front : List ℕ) × (bytes ≡ front ++ 10 ∷ []))
 
--- the bytes that were read are whole lines, and behind their last line feed a part of one
+-- the bytes that were read are whole lines, and after their last line feed a part of one
 pub record IsRead (old new : Option (List ℕ)) (whole part : List ℕ) : Type 0 where
   pub bytes : Consumes old new (whole ++ part)
   pub ends : EndsInFeed whole
@@ -34,11 +34,11 @@ pub record IsRead (old new : Option (List ℕ)) (whole part : List ℕ) : Type 0
 abbrev pub WroteWhole : Option (List ℕ) → Option (List ℕ) → Option (List ℕ) → Option (List ℕ) → Type 0
 WroteWhole told left old new = (whole : List ℕ) × (part : List ℕ) × IsRead told left whole part × Appends old new (output_of whole)
 
--- or a front of it
+-- or a prefix of it
 abbrev pub WroteFront : Option (List ℕ) → Option (List ℕ) → Option (List ℕ) → Option (List ℕ) → Type 0
 WroteFront told left old new = (whole : List ℕ) × (part : List ℕ) × IsRead told left whole part × TakesFront old new (output_of whole)
 
--- or, as the reader is at its end, a front of the output of all bytes that were read
+-- or, as the reader is at its end, a prefix of the output of all bytes that were read
 abbrev pub WroteToEnd : Option (List ℕ) → Option (List ℕ) → Option (List ℕ) → Option (List ℕ) → Type 0
 WroteToEnd told left old new = (script : List ℕ) × Consumes told left script × IsAtEnd left × TakesFront old new (output_of script)
 

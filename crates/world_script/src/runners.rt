@@ -140,7 +140,7 @@ impl<A: Allocator + Copy> Runner<A> {
         write_out(&mut self.output, writer)
     }
 
-    /// Runs the line behind the last line feed, if it isn't empty. None of its output is written: where memory is
+    /// Runs the line after the last line feed, if it isn't empty. None of its output is written: where memory is
     /// refused, it is no line yet.
     fn run_last<W: Sink>(&mut self, alloc: A, writer: &mut W) -> Result<(), SendError>
         requires none_wait { self.old.session.waiting ≡ None }

@@ -19,7 +19,7 @@ use std::mem::forget;
 ///
 /// A read or a write that is interrupted is tried again, up to 64 times in a row. Fails where a read or a write fails
 /// otherwise or a write takes no byte, where the script has more than 16,777,216 bytes, and where memory is refused.
-/// What was written then is a front of the output of the lines whose ends were read, and all of it where a read failed
+/// What was written then is a prefix of the output of the lines whose ends were read, and all of it where a read failed
 /// or the script is too long.
 pub fn run<A: Allocator + Copy, R: Source, W: Sink>(
     alloc: A,
@@ -50,7 +50,7 @@ pub fn run<A: Allocator + Copy, R: Source, W: Sink>(
     Ok(runner.summary())
 }
 
-/// As `run`, for a program that ends behind it: the memory of the session isn't given back, but goes with the process.
+/// As `run`, for a program that ends after it: the memory of the session isn't given back, but goes with the process.
 pub fn run_without_cleanup<A: Allocator + Copy, R: Source, W: Sink>(
     alloc: A,
     random: RandomState,

@@ -15,7 +15,7 @@ use ecs_print::{write_handle_line, write_number};
 use query_model::faults::{Fault, FaultKind};
 use std::alloc::{AllocError, Allocator};
 
-/// Tells that a line is refused.
+/// Prints that a line is refused.
 #[cold]
 #[inline(never)]
 pub(crate) fn refuse<A: Allocator>(
@@ -31,7 +31,7 @@ pub(crate) fn refuse<A: Allocator>(
     Ok(true)
 }
 
-/// Tells that a command is refused, or a kept query.
+/// Prints that a command is refused, or a kept query.
 fn refuse_command<A: Allocator>(
     number: usize,
     refusal: SessionRefusal,
@@ -49,7 +49,7 @@ fn refuse_command<A: Allocator>(
     }
 }
 
-/// Tells that a line is refused as the world refuses it.
+/// Prints that a line is refused as the world refuses it.
 #[cold]
 #[inline(never)]
 pub(crate) fn refuse_in_world<A: Allocator>(
@@ -62,7 +62,7 @@ pub(crate) fn refuse_in_world<A: Allocator>(
     refuse(number, refusal_word(refusal), output)
 }
 
-/// Tells that a query is refused.
+/// Prints that a query is refused.
 pub(crate) fn refuse_query<A: Allocator>(
     number: usize,
     fault: Fault,
@@ -76,7 +76,7 @@ pub(crate) fn refuse_query<A: Allocator>(
     Ok(true)
 }
 
-/// Tells what a session answered to a command: the events that wait where it was accepted. After that none wait.
+/// Prints what a session answered to a command: the events that wait where it was accepted. After that none wait.
 pub(crate) fn tell_answer<A: Allocator + Copy>(
     session: &mut Session<A>,
     number: usize,
@@ -93,7 +93,7 @@ pub(crate) fn tell_answer<A: Allocator + Copy>(
     Ok(false)
 }
 
-/// Tells what a session answered to `new`: the entity that it made, and then the events that wait. After that none
+/// Prints what a session answered to `new`: the entity that it made, and then the events that wait. After that none
 /// wait.
 pub(crate) fn tell_born<A: Allocator + Copy>(
     session: &mut Session<A>,
@@ -115,7 +115,7 @@ pub(crate) fn tell_born<A: Allocator + Copy>(
     Ok(false)
 }
 
-/// Tells why a session did not do what it was called for.
+/// Prints why a session did not do what it was called for.
 #[cold]
 #[inline(never)]
 pub(crate) fn tell_error<A: Allocator>(
