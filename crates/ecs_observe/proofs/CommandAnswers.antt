@@ -74,7 +74,7 @@ module _ (s : Standing) (session : IsSession s) (none : is_some s.waiting ≡ fa
     is_after true = record { before = (s.world).state; command = c; kept = kept; stepped = stepped }
     is_after false = tt
 
-    -- what monitors were told before the command
+    -- what monitors were notified of before the command
     was_now : All (WasNow v.state changed) s.stored
     was_now = λ k d l m other. all_now k d l m other ∙ sym (queries_matched_before (s.world).state v.state c changed _ kept stepped)
 

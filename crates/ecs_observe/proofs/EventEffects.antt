@@ -1,4 +1,4 @@
--- What telling events leaves of a session.
+-- What delivering events leaves of a session.
 use Rattle.std.specs.Prelude.{◌≡◌, ℕ, ◌+◌, ◌≤◌, Bool, true, false, not, ◌&&◌, List, [], ◌∷◌, ◌++◌, All, AllPairs, map, flat_map, length, slice_get, take, Option, None, Some, option_map, IfSome, if◌then◌else◌}
 use Rattle.std.specs.declared.string.String.{String}
 use Rattle.std.specs.Option.{option_map_or}
@@ -64,7 +64,7 @@ module _ {A : Type 0} where
       let one = held_as (string_bytes name) q in
       subst P (get_or_from_slice_get (map held_of es) i one one there) (all i one (slice_get_within (map held_of es) i one there))
 
--- ---- the rows that were told are kept
+-- ---- the rows of the events are kept
 module _ {A : Type 0} where
   pub placed_more : (ps : List (ℕ × RowsAfter A)) (n : ℕ) (rows : RowsAfter A) (es : List (String A × StoredQuery A)) → with_all_kept (ps ++ (n, rows) ∷ []) es ≡ with_all_kept ps (with_kept_at n rows es)
   placed_more [] n rows es = refl
@@ -135,7 +135,7 @@ module _ {A : Type 0} (f : Held → Option (List ℕ)) (es : List (String A × S
   abbrev hs : List Held
   hs = map held_of es
 
-  -- what is put of the first m is what is to be put of these, whatever stands behind them
+  -- what is put of the first m is what is to be put of these, whatever stands after them
   abbrev pub ArePlacedUpTo : ℕ → List (ℕ × RowsAfter A) → Type 0
   ArePlacedUpTo m placed = (gs : List (String A × StoredQuery A)) → take m gs ≡ take m es → map held_of (with_all_kept placed gs) ≡ with_rows (map f (take m hs)) (map held_of gs)
 
@@ -237,13 +237,13 @@ pub told_is_after : (s : Standing) (n : ℕ) → session_of (told_session s n) �
 unfolding session_of
 told_is_after s n = λ j. record { world = (s.world).state; stored = same_stored (s.world).state s.stored j; waiting = None }
 
--- what is told is what waits
+-- what is delivered is what waits
 pub told_is_waiting : (s : Standing) (changed : Changed) → s.waiting ≡ Some changed → flat_map (told_to (s.world).state changed) s.stored ≡ events (session_of s)
 unfolding session_of
 told_is_waiting s changed e =
     sym (ap (λ o. option_map_or (λ es. es) (option_map (λ done. flat_map (told_to (s.world).state done) s.stored) o) []) e)
 
--- where nothing waits, nothing is told
+-- where nothing waits, nothing is delivered
 pub none_told : (s : Standing) → s.waiting ≡ None → [] ≡ events (session_of s)
 unfolding session_of
 none_told s e = sym (ap (λ o. option_map_or (λ es. es) (option_map (λ done. flat_map (told_to (s.world).state done) s.stored) o) []) e)
@@ -302,7 +302,7 @@ module _ (s now : Standing) (view_is : s ≡ now) where
   pub searched_for : (changed : Changed) → s.waiting ≡ Some changed → count_by (is_searched changed) s.stored ≡ searched_in now
   searched_for changed waiting = sym (ap (λ o. option_map_or (λ done. count_by (is_searched done) s.stored) o 0) waiting) ∙ ap searched_in view_is
 
-  -- and of so many whole rows are taken
+  -- and so many are evaluated
   pub taken_for : (changed : Changed) → s.waiting ≡ Some changed → count_by (is_taken_whole changed) s.stored ≡ taken_in now
   taken_for changed waiting = sym (ap (λ o. option_map_or (λ done. count_by (is_taken_whole done) s.stored) o 0) waiting) ∙ ap taken_in view_is
 

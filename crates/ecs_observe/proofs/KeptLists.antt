@@ -44,7 +44,7 @@ module _ {A : Type 0} where
     abbrev has : String A × StoredQuery A → Type 0
     has e = HasList s e.1
 
-    -- one is put behind
+    -- one is put after the others
     pub lists_more : (es fs : List (String A × StoredQuery A)) (k : String A) (q : StoredQuery A) → fs ≡ es ++ (k, q) ∷ [] → HasList s q → HaveLists s es → HaveLists s fs
     lists_more es fs k q put one all = subst (HaveLists s) (sym put) (All-push has es (k, q) all one)
 

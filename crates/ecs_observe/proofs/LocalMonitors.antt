@@ -1,4 +1,4 @@
--- Which stored queries among those that are held are told locally, and which are compared.
+-- Which stored queries among those that are held are local monitors, and which are compared.
 use Rattle.std.specs.Prelude.{◌≡◌, ℕ, Bool, true, false, List, [], ◌∷◌, ◌++◌, ◌<◌, length, map, Some, slice_get, slice_index_or}
 use Rattle.std.specs.List.{list_any}
 use Rattle.std.specs.Option.{option_map_or}
@@ -25,7 +25,7 @@ module _ {A : Type 0} (es : List (String A × StoredQuery A)) (i : ℕ) (name : 
       by true e = absurd (true≢false (sym (any_passes_from_place p (map held_of es) i (held_as (string_bytes name) q) (held_at es i name q there) e) ∙ none))
       by false e = refl
 
--- one that is told locally stands at one of these places
+-- one that is a local monitor stands at one of these places
 pub one_told_locally : {A : Type 0} (es : List (String A × StoredQuery A)) (places : List ℕ) (j d : ℕ) (name : String A) (q : StoredQuery A) → j < length places
     → slice_get es (slice_index_or places j d) ≡ Some (name, q) → is_told_locally (held_as (string_bytes name) q) ≡ true → any_locally_at es places ≡ true
 one_told_locally es places j d name q inside there e =

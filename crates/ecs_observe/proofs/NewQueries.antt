@@ -29,7 +29,7 @@ use Rattle.ecs_observe.specs.Standing.{IsSession}
 use Rattle.ecs_observe.specs.Storing.{with_held}
 use Rattle.ecs_observe.proofs.NamedQueries.{seen}
 
--- where nothing waits, nothing is told
+-- where nothing waits, nothing is delivered
 pub none_waits : {X Y : Type 0} (o : Option X) → o ≡ None → (f g : X → Y) → option_map f o ≡ option_map g o
 none_waits o e f g = ap (option_map f) e ∙ sym (ap (option_map g) e)
 

@@ -12,7 +12,7 @@ use Rattle.query_meaning.specs.Standing.{IsPinnedIn}
 use Rattle.watch_concerns.specs.Mentions.{mentions_index, times}
 use Rattle.watch_stored.specs.Held.{Held}
 
--- how many queries mention an entity, with one more in front
+-- how many queries mention an entity, with one more before the others
 pub times-cons : (i : ℕ) (q : Query) (qs : List Query) → times i (q ∷ qs) ≡ cond (mentions_index q.mentions i) 1 0 + times i qs
 times-cons i q qs = sum_by-cons (λ x. cond (mentions_index x.mentions i) 1 0) q qs
 

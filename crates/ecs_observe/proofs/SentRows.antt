@@ -1,4 +1,4 @@
--- What is sent of a kept query's rows, and how the calls of the writer stand behind it.
+-- What is sent of a kept query's rows, and how the calls of the writer stand after it.
 use Rattle.std.proofs.Common.{◌≡◌, ℕ, List, length, refl, sym, subst}
 use Rattle.std.specs.Prelude.{IsErrAnd, Option, Some, [], Result, Ok, Err, max, ⊤}
 use Rattle.ecs_model.specs.World.{WorldState}
@@ -41,7 +41,7 @@ refused_calm T calls reason = λ calm. (λ is. absurd (other {T = T} (Err (rows.
 pub sent_calm : {T U : Type 0} (old new : Calls) (x : T) (y : U) → FailsAtWrite old (Ok x) new → FailsAtSend old (Ok y) new
 sent_calm old new x y told = λ calm. (λ is. absurd (other (Ok y) (λ none. none) is), λ _. calm_still old new x told calm)
 
--- an error of sending that is passed on tells the same
+-- an error of sending that is passed on says the same
 fails_as : {T : Type 0} (U : Type 0) (e : SendError) (old new : Calls) (given : Result T SendError) → given ≡ Err e → FailsAtWrite old given new → FailsAtSend {T = U} old (Err (rows.Unsent e)) new
 fails_as U send.Memory old new given was told = λ calm. (
   λ is. absurd (other {T = U} (Err (rows.Unsent send.Memory)) (λ none. none) is),
@@ -71,7 +71,7 @@ module _ {A : Type 0} (most : ℕ) where
       let Q : Result T SendError → Type 0 = λ g. HoldsAtFault (max most (length before)) (lines_of_rows w (q.plan).query) g after in
       subst P (sym passed) (stopped T U e q w o p before after kind stops (subst Q was holds))
 
--- where nothing can be sent: a name that no kept query has, and a front of the rows
+-- where nothing can be sent: a name that no kept query has, and a prefix of the rows
 module _ (most : ℕ) (s : SessionState) (name before after : List ℕ) where
   pub refused_nowhere : (reason : SessionRefusal) → SendsKept {T = Option ℕ} most (Err (rows.Refused reason)) s name (Some []) (Some []) before after → AnswersRows {T = Option ℕ} (Err (Refused reason)) s name before after
   refused_nowhere reason so = (so.0, so.1)

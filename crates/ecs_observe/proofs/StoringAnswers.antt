@@ -134,7 +134,7 @@ module _ (w : WorldState) (kind : StoredKind) (text : List ℕ) (q : Query) (h :
   pub new_now : AreThese w kind q h.these → IsNow w h
   new_now these = λ m l. these (sym is_kind ∙ m) (ap is_local (sym is_query) ∙ l) ∙ ap (matching (view_of w)) (sym is_query)
 
--- a query that can't be stored as one of the kind is told by its fault
+-- a query that can't be stored as one of the kind is refused with its fault
 pub told_fault : (self : Standing) (kind : StoredKind) (n text : List ℕ) (e : SessionError) → store_refusal (session_of self) n ≡ None → AnswersWatched (self.world).state kind text (Err e)
     → AnswersApply (Err e) (apply (session_of self) (Store kind n text)) self self
 told_fault self kind n text (Refused reason) free h = (store_faulty (session_of self) kind n text h.0 free (ap (λ w. watched_if_read kind (query_of w text)) (world_is self) ∙ h.2) ∙ ap Err (sym h.1), refl)

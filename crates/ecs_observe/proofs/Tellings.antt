@@ -1,4 +1,4 @@
--- What stored queries are told of a command, by what is held of them.
+-- What stored queries are notified of after a command, by what is held of them.
 use Rattle.std.specs.Prelude.{◌≡◌, ℕ, Bool, true, false, ◌||◌, List, [], ◌∷◌, ◌++◌, All, map, flat_map, Option, None, Some, Result, Ok, if◌then◌else◌}
 use Rattle.std.specs.List.{list_any}
 use Rattle.std.proofs.Common.{refl, ap, sym, subst, ◌∙◌, ◌≢◌, true≢false}
@@ -36,18 +36,18 @@ pub any_value : {A : Type 0} (es : List (String A × StoredQuery A)) → list_an
 any_value [] = refl
 any_value (e ∷ es) = ap (λ b. is_told (e.1).kind || b) (any_value es)
 
--- what isn't told of commands is no monitor
+-- what isn't notified of commands is no monitor
 no_monitor : (kind : StoredKind) → is_told kind ≡ false → kind ≢ Monitor
 no_monitor kind h e = true≢false (sym (ap is_told e) ∙ h)
 
--- so where none is told of commands, nothing is asked of monitors
+-- so where none is notified of commands, nothing is asked of monitors
 pub none_now : (w : WorldState) (hs : List Held) → list_any (λ h. is_told h.kind) hs ≡ false → All (IsNow w) hs
 none_now w [] none = All-nil (IsNow w)
 none_now w (h ∷ hs) none =
     let parts = neither (is_told h.kind) (list_any (λ (x : Held). is_told x.kind) hs) none in
     All-cons (IsNow w) h hs (λ e. absurd (no_monitor h.kind parts.0 e)) (none_now w hs parts.1)
 
--- only a monitor is told by the entities of its rows before
+-- only a monitor's events depend on the entities of its rows before
 same_old : (v : WorldState) (changed : Changed) (kind : StoredKind) (h : Held) (rows old : List ℕ) → (kind ≡ Monitor → rows ≡ old)
     → told_since v changed h.name kind h.query old ≡ told_since v changed h.name kind h.query rows
 unfolding told_since
@@ -71,7 +71,7 @@ module _ (w v : WorldState) (c : Command) (changed : Changed) (kept : IsWellForm
       watches_are_told_since w v c changed h.name h.kind h.query kept stepped
       ∙ same_old v changed h.kind h (rows_before v changed h) (matching (view_of w) h.query) (before_is h now)
 
-  -- what all are told of the command follows from what is held
+  -- what all are notified of follows from what is held
   pub told_all : (hs : List Held) → All (IsNow w) hs → flat_map (told w v changed) (map stored_of hs) ≡ flat_map (told_to v changed) hs
   told_all [] now = refl
   told_all (h ∷ hs) now =

@@ -1,4 +1,4 @@
--- How many stored queries are told of commands, and what all look out for, with one more, with one less, and where one is written.
+-- How many stored queries are notified of commands, and what all look out for, with one more, with one less, and where one is written.
 use mir.Val.{bool_byte}
 use Rattle.std.specs.Prelude.{◌≡◌, ℕ, ◌+◌, ◌-◌, ◌<◌, ◌≤◌, cond, nat_lt, Bool, true, false, ◌||◌, List, [], ◌∷◌, ◌++◌, All, length, map, slice_index_or, slice_set}
 use Rattle.std.specs.List.{count_by, fold, list_any, remove}

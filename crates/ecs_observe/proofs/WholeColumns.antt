@@ -1,4 +1,4 @@
--- What the values of a table leave of a session: one `set` after another is accepted, and nobody is told.
+-- What the values of a table leave of a session: one `set` after another is accepted, and none is notified.
 use Rattle.std.specs.Prelude.{◌≡◌, ℕ, true, false, List, [], ◌∷◌, take, drop, Option, Some, None, is_some, option_map, Ok, if◌then◌else◌}
 use Rattle.std.specs.List.{list_any}
 use Rattle.std.proofs.Common.{refl, ap, sym, subst, ◌∙◌}

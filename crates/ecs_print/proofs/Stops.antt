@@ -18,7 +18,7 @@ stops_before before text = record { more = []; rest = text; holds = sym (append-
 pub stops_same : {X : Type 0} (before after text : List X) → after ≡ before → StopsWithin before after text
 stops_same before after text same = subst (λ xs. StopsWithin before xs text) (sym same) (stops_before before text)
 
--- behind a piece that was written
+-- after a piece that was written
 pub stops_behind : {X : Type 0} (before piece mid after text : List X) → mid ≡ before ++ piece → StopsWithin mid after text → StopsWithin before after (piece ++ text)
 stops_behind before piece mid after text is so = record {
   more = piece ++ so.more;
@@ -36,23 +36,23 @@ stops_sooner before after text more so = record {
   front = ap (λ xs. xs ++ more) so.front ∙ append_assoc so.more so.rest more;
 }
 
--- both lists with a front of their own
+-- both lists with a prefix of their own
 pub stops_past : {X : Type 0} (s before after text : List X) → StopsWithin before after text → StopsWithin (s ++ before) (s ++ after) text
 stops_past s before after text so =
     record { more = so.more; rest = so.rest; holds = ap (λ xs. s ++ xs) so.holds ∙ sym (append_assoc s before so.more); front = so.front }
 
--- what was there stands in front
+-- what was there comes first
 pub stops_front : {X : Type 0} (before after text : List X) → StopsWithin before after text → take (length before) after ≡ before
 stops_front before after text so = ap (take (length before)) so.holds ∙ take-append_seam before so.more
 
 -- ---- among the pieces of a list
 
--- behind those of the first items
+-- after those of the first items
 pub stops_at_item : {X Y : Type 0} (f : X → Y) (xs : List X) (n : ℕ) (before after : List Y) → after ≡ before ++ map f (take n xs) → StopsWithin before after (map f xs)
 stops_at_item f xs n before after is =
     record { more = map f (take n xs); rest = map f (drop n xs); holds = is; front = ap (map f) (sym (take-append-drop n xs)) ∙ map-append f (take n xs) (drop n xs) }
 
--- behind those of the first items that pass a test
+-- after those of the first items that pass a test
 pub stops_at_passed : {X Y : Type 0} (f : X → Y) (test asked : X → Bool) (xs : List X) (n : ℕ) (before after : List Y) → filter asked xs ≡ filter test xs → after ≡ before ++ map f (filter test (take n xs))
     → StopsWithin before after (map f (filter asked xs))
 stops_at_passed f test asked xs n before after same is = record {

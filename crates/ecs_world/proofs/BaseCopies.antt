@@ -55,7 +55,7 @@ module _ (value : Id → List ℤ) where
         | inr p ↦ elim (fact_value_at m k (value k.1) q) [ inl n ↦ inl (p ∙ n.1 ∙ ap (λ (x : Key). Some (value x.1)) (sym n.0)) | inr n ↦ inr (p ∙ n.1) ]
       ]
 
--- copies are written as they are told
+-- copies are written as they are listed
 copies_each : (e : ℕ) (f g : Id → List ℤ) (m : Map Key (List ℤ)) (cs : List Id) → ((c : Id) → Contains cs c → f c ≡ g c) → with_those f m (map (λ c. (e, c)) cs) ≡ with_each e g m cs
 copies_each e f g m [] same = refl
 copies_each e f g m (c ∷ cs) same =
@@ -95,7 +95,7 @@ module _ (w : WorldState) (h : IsWellFormed w) (i : Id) (none : byte_count (type
   nothing_written e b held based =
       ap (with_facts w) (sym (ap (λ o. with_value key_cmp w.facts (e, i) (unwrap_or o [])) (empty_value b based) ∙ same_value w.facts (e, i) [] ((h.in_order).facts) (empty_value e held)))
 
--- bytes of the base's value are written, from the front of a buffer
+-- bytes of the base's value are written, from the beginning of a buffer
 pub copy_written : (v : WorldState) (e b : ℕ) (i : Id) (size : ℕ) (front rest bytes : List ℕ) → front ≡ bytes → length bytes ≡ size → Some (value_in (type_of_id v i) bytes) ≡ value_of v b i
     → with_bytes v e i (take size (front ++ rest)) ≡ with_copies v b ((e, i) ∷ [])
 copy_written v e b i size front rest bytes same sized is =

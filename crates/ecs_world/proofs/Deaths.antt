@@ -1,4 +1,4 @@
--- Who is told to have died: the deleted entities with the names that they had.
+-- The deaths of a deletion: the deleted entities with the names that they had.
 use Rattle.std.proofs.Common.{◌≡◌, ℕ, true, List, [], ◌∷◌, Option, Some, None, is_some, refl, sym, ap, ◌∙◌, arith, true≢false}
 use Rattle.std.specs.Prelude.{map, not, option_map, unwrap_or}
 use Rattle.std.specs.List.{Contains, cons_option, list_any}

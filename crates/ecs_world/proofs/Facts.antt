@@ -86,7 +86,7 @@ bytes_in cells d i = value_at id_cmp (unwrap_or (value_at nat_cmp cells d) []) i
 abbrev pub AllRise : Map ℕ Cells → Type 0
 AllRise cells = (e : ℕ) (cs : Cells) → value_at nat_cmp cells e ≡ Some cs → IsMap id_cmp cs
 
--- what is found behind the first is found in all, where the keys rise
+-- what is found after the first is found in all, where the keys rise
 found_behind : (x : ℕ × Cells) (xs : Map ℕ Cells) → IsMap nat_cmp (x ∷ xs) → (e : ℕ) (cs : Cells) → value_at nat_cmp xs e ≡ Some cs → value_at nat_cmp (x ∷ xs) e ≡ Some cs
 found_behind x xs s e cs found = by (eq_by_cmp nat_cmp e x.0) refl
   where

@@ -1,4 +1,4 @@
--- The names of live entities as a map by index: what the finite map of names tells of it.
+-- The names of live entities as a map by index: what the finite map of names says of it.
 use Rattle.std.proofs.Common.{◌≡◌, ◌≢◌, ◌⊎◌, ◌↔◌, ℕ, Bool, true, false, cond, ◌&&◌, List, [], ◌∷◌, filter_map, Option, Some, None, option_map, is_some, bytes_eq, refl, sym, ap, subst, ◌∙◌, inl, inr, arith, true≢false}
 use Rattle.std.proofs.lemmas.Bool.Decides.{nat_tests}
 use Rattle.std.proofs.lemmas.Slice.Eq.{bytes_eq-Decides}

@@ -1,4 +1,4 @@
--- What the index of names tells of a new name is what the reasons against it say.
+-- What the index of names answers of a new name is what the reasons against it say.
 use Rattle.std.proofs.Common.{◌≡◌, ℕ, true, not, List, [], ◌∷◌, ◌++◌, Some, None, Err, is_some, sym, ap, ◌∙◌}
 use Rattle.std.specs.FinMap as finite
 use Rattle.ecs_id.specs.declared.EntityId.{EntityId}

@@ -26,7 +26,7 @@ told b r rs h = ap (λ b. first_reason ((b, r) ∷ rs)) (sym h)
 pub passed_over : (b : Bool) (r : Refusal) (rs : List (Bool × Refusal)) → b ≡ false → first_reason rs ≡ first_reason ((b, r) ∷ rs)
 passed_over b r rs h = ap (λ b. first_reason ((b, r) ∷ rs)) (sym h)
 
--- what is told of the first reasons is told of all
+-- what holds of the first reasons holds of all
 pub told_first : (rs ss : List (Bool × Refusal)) (r : Refusal) → Some r ≡ first_reason rs → Some r ≡ first_reason (rs ++ ss)
 told_first [] ss r h = absurd (cc)
 told_first ((true, q) ∷ rs) ss r h = h

@@ -146,7 +146,7 @@ left_then a b f g h first second = record {
   whole = second.whole;
 }
 
--- the same ids, told otherwise
+-- the same ids, in another form
 pub left_same : (a b : Id → Bool) (g h : Housing) → ((i : Id) → a i ≡ b i) → AreLeft a g h → AreLeft b g h
 left_same a b g h same left = subst (λ gone. AreLeft gone g h) (λ k. λ i. same i k) left
 

@@ -1,4 +1,4 @@
--- What is seen of a world tells of its state, of its tables, and of the entities in them.
+-- What is seen of a world says of its state, of its tables, and of the entities in them.
 use Rattle.std.proofs.Common.{◌≡◌, ℕ, ◌&&◌, Bool, true, false, List, is_some, refl, sym, ap, subst}
 use Rattle.std.specs.Ordering.{nat_cmp}
 use Rattle.ecs_id.specs.declared.EntityId.{EntityId}

@@ -1,4 +1,4 @@
--- What the state of a world tells of its parts.
+-- What the state of a world says of its parts.
 use Rattle.std.proofs.Common.{◌≡◌, ℕ, ◌≤◌, nat_le, ◌==◌, Bool, true, false, cond, not, ◌&&◌, ◌||◌, List, [], ◌∷◌, length, replicate, Option, Some, None, option_map, unwrap_or, is_some, if◌then◌else◌, IfSome, IsTrue, refl, sym, ap, subst, ◌∙◌, arith, true≢false}
 use Rattle.std.proofs.lemmas.Bool.Decides.{Decides-eqb, nat_tests}
 use Rattle.std.specs.FinMap.Entries.{is_some-find}
@@ -179,7 +179,7 @@ module _ {parts : Parts} (world : IsWorld parts) where
           ap (option_map (λ c. keys c)) at.1 ∙ ap Some (sym (ids_is e.index ∙ ap (λ o. keys (unwrap_or o [])) at.1))
       by false dead = refl
 
-  -- what the bytes of a fact tell
+  -- what the bytes of a fact mean
   pub has_told : {B : Type 0} (o : Option B) (e : ℕ) (i : Id) (b : Bool) → is_some o ≡ is_some (bytes_at h e i) → b ≡ is_some o → b ≡ holds w e i
   has_told o e i b same is = is ∙ same ∙ sym (holds_is e i)
 

@@ -1,4 +1,4 @@
--- What an accepted `add` or `set` tells is what has changed, and what `set` writes.
+-- What an accepted `add` or `set` answers is what has changed, and what `set` writes.
 use Rattle.std.proofs.Common.{◌≡◌, ℕ, true, List, [], ◌∷◌, ℤ, Option, None, Ok, sym, ap, subst, ◌∙◌, inl}
 use Rattle.ecs_id.specs.declared.EntityId.{EntityId}
 use Rattle.ecs_id.specs.Id.{Id}

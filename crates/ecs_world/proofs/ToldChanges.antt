@@ -1,4 +1,4 @@
--- What accepted commands tell is what has changed.
+-- What accepted commands answer is what has changed.
 use Rattle.std.proofs.Common.{◌≡◌, ℕ, Bool, true, false, cond, not, ◌||◌, ℤ, List, [], ◌∷◌, Some, None, is_some, Ok, if◌then◌else◌, refl, sym, ap, subst, ◌∙◌}
 use Rattle.std.specs.Prelude.{filter}
 use Rattle.std.specs.List.{list_any}

@@ -1,4 +1,4 @@
--- What an accepted deletion tells is what has changed.
+-- What an accepted deletion answers is what has changed.
 use Rattle.std.proofs.Common.{◌≡◌, true, None, Ok, is_some, refl, sym, ap, ◌∙◌}
 use Rattle.std.specs.Prelude.{filter}
 use Rattle.std.specs.Ordering.{nat_cmp}

@@ -1,4 +1,4 @@
--- What an accepted `remove` tells is what has changed.
+-- What an accepted `remove` answers is what has changed.
 use Rattle.std.proofs.Common.{◌≡◌, None, Ok, sym, ◌∙◌}
 use Rattle.std.specs.Prelude.{filter}
 use Rattle.std.specs.List.{list_any}

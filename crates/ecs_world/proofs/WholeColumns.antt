@@ -1,4 +1,4 @@
--- What the judgement of a column tells, and what its table says of the world.
+-- What the judgement of a column answers, and what its table says of the world.
 use Rattle.std.proofs.Common.{◌≡◌, ℕ, ◌+◌, ◌-◌, ◌*◌, ◌^◌, ◌≤◌, ◌<◌, ◌==◌, Bool, true, false, cond, not, ◌&&◌, ◌||◌, List, [], ◌∷◌, length, take, drop, Option, Some, None, option_map, unwrap_or, is_some, is_none, refl, sym, ap, subst, ◌∙◌, arith, true≢false}
 use Rattle.std.proofs.lemmas.Bool.Decides.{nat_tests, Decides-eqb}
 use Rattle.std.specs.Prelude.{nat_lt, slice_get, option_and_then}
@@ -108,7 +108,7 @@ module _ (w : Standing) (k : TableKey) (i : Id) (n : ℕ) where
             pub tells_none : nat_lt (2 ^ 64 - 1) ((w.state).accepted + length t.entities) ≡ false → column_fault w k i n ≡ None
             tells_none h = at_sized ∙ goes_by (nat_lt (2 ^ 64 - 1) ((w.state).accepted + length t.entities)) Full [] h
 
--- what is known where no fault is told
+-- what is known where no fault is answered
 pub record IsFit (w : Standing) (k : TableKey) (i : Id) (n : ℕ) : Type 0 where
   pub table : Archetype
   pub fields : Schema

@@ -1,4 +1,4 @@
--- What was found to come with a fact tells what it brings and takes, and why it is refused.
+-- What was found to come with a fact is what it brings and takes, and why it is refused.
 use Rattle.std.proofs.Common.{◌≡◌, ◌↔◌, ◌∙◌, ◌⊎◌, ℕ, ◌+◌, ◌-◌, ◌<◌, ◌≤◌, ◌==◌, Bool, true, false, cond, ◌&&◌, ◌||◌, not, IsTrue, List, [], ◌∷◌, ◌++◌, length, get_or, is_some, Option, Some, None, true≢false, refl, sym, ap, subst, inl, inr, arith}
 use Rattle.std.specs.Prelude.{IfSome, filter, filter_map, flat_map, map, nat_lt, if◌then◌else◌}
 use Rattle.std.specs.Cmp.{eq_by_cmp_equiv}

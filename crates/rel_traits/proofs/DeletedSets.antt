@@ -1,4 +1,4 @@
--- What was found of a deletion tells whom and what it takes, and why it is refused.
+-- What was found of a deletion says whom and what it takes, and why it is refused.
 use Rattle.std.proofs.Common.{◌≡◌, ◌↔◌, ◌∙◌, ℕ, ◌==◌, Bool, true, false, ◌&&◌, ◌||◌, not, IsTrue, List, [], ◌∷◌, ◌++◌, length, Option, refl, sym, ap, subst, inl, inr, arith, true≢false}
 use Rattle.std.specs.Prelude.{map, filter, flat_map, nat_lt}
 use Rattle.std.specs.Cmp.{nat_cmp_total}

@@ -65,7 +65,7 @@ module _ (ids : ℕ → List Id) where
   pub may_have_cycles : (k : Key) → is_held (ids (first_of k.1)) (plain acyclic) ≡ false → ¬ (ClosesAt ids k.0 k)
   may_have_cycles k free c = true≢false (sym c.2 ∙ free)
 
-  -- nor does one of an entity to which its relationship leads from nobody, unless that is its own target
+  -- nor does one of an entity to which its relationship leads from none, unless that is its own target
   pub nobody_leads : (k : Key) (t : ℕ) → second_of k.1 ≡ Some t → ¬ (t ≡ k.0) → ((y : ℕ) → ¬ (Contains (upward ids (first_of k.1) y) k.0)) → ¬ (ClosesAt ids k.0 k)
   nobody_leads k t target apart none c = by c.3
     where

@@ -1,4 +1,4 @@
--- Whose term matches no fact that has changed is told nothing.
+-- An observer whose term matches no fact that has changed has no events.
 use Rattle.std.specs.List.{filter, list_any}
 use Rattle.std.specs.Option.{option_map_or}
 use Rattle.std.proofs.Common.{◌≡◌, ℕ, Bool, false, ◌&&◌, List, [], ◌∷◌, Option, None, cond, map, refl, ap, ◌∙◌, true≢false}

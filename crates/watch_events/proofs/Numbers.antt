@@ -5,7 +5,7 @@ use Rattle.std.proofs.Common.{◌≡◌, ℕ, List, [], ◌∷◌, ◌++◌, sym
 use Rattle.ecs_model.specs.Print.{value_text, values_text}
 use Rattle.ecs_print.specs.Values.{behind_comma}
 
--- numbers with commas between are the first and the others each behind a comma
+-- numbers with commas between are the first and the others each after a comma
 values_text-cons : (n : ℤ) (ns : List ℤ) → values_text (n ∷ ns) ≡ signed_decimal n ++ flat_map behind_comma ns
 values_text-cons n [] = sym (append-nil (signed_decimal n))
 values_text-cons n (m ∷ ns) = ap (λ t. signed_decimal n ++ 44 ∷ t) (values_text-cons m ns)

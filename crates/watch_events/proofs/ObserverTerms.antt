@@ -1,4 +1,4 @@
--- An observer's one term decides what it is told.
+-- An observer's one term decides what it is notified of.
 use Rattle.std.specs.List.{filter}
 use Rattle.std.proofs.Common.{◌≡◌, ℕ, Bool, false, not, ◌&&◌, ◌||◌, List, [], ◌∷◌, Some, None, ap, ◌∙◌}
 use Rattle.std.specs.Option.{option_map_or}

@@ -1,4 +1,4 @@
--- What is told to a stored query, by its kind.
+-- What a stored query is notified of, by its kind.
 use Rattle.std.specs.Prelude.{OnOk, Result, Ok, Err}
 use Rattle.std.specs.List.{filter}
 use Rattle.std.proofs.Common.{◌≡◌, ℕ, List, ◌++◌, map, sym, ap, ◌∙◌, append-nil}
@@ -13,7 +13,7 @@ use Rattle.ecs_model.specs.stored.Watches.{Event, fact_event, observes}
 use Rattle.watch_concerns.specs.Since.{observed_before, removed_event, told_since}
 use Rattle.watch_events.specs.Terms.{told_value}
 
--- what is told, in another form
+-- the events, in another form
 pub told_same : {E Y : Type 0} (r : Result (Unit {0}) E) (start new told wanted : List Y) → OnOk r (new ≡ start ++ told) → told ≡ wanted → OnOk r (new ≡ start ++ wanted)
 told_same (Ok x) start new told wanted h same = h ∙ ap (λ t. start ++ t) same
 told_same (Err e) start new told wanted h same = tt

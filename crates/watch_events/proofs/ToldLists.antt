@@ -1,4 +1,4 @@
--- What is told of a list, one element after another.
+-- The events of a list, one element after another.
 use Rattle.std.specs.List.{filter}
 use Rattle.std.proofs.Common.{◌≡◌, ℕ, ◌≤◌, Bool, List, [], ◌++◌, map, take, length, sym, ap, ◌∙◌, append-nil}
 use Rattle.std.proofs.lemmas.List.{take_all}

@@ -1,4 +1,4 @@
--- What monitors of local queries are told.
+-- What monitors of local queries are notified of.
 use Rattle.std.specs.Prelude.{◌≡◌, ℕ, true, false, ◌&&◌, List, if◌then◌else◌}
 use Rattle.std.specs.List.Sorted.{IsStrictlyIncreasing}
 use Rattle.std.proofs.Common.{refl, sym, ap, subst, ◌∙◌, true≢false}
@@ -24,11 +24,11 @@ use Rattle.watch_stored.proofs.StayingRows.{monitor_is}
 pub is_local_query : (h : Held) → is_told_locally h ≡ true → is_local h.query ≡ true
 is_local_query h e = (and_parts (is_monitor h.kind) (is_local h.query) e).1
 
--- a monitor that isn't told locally has another query
+-- a monitor that isn't one of a local query has another query
 pub isnt_local : (h : Held) → is_told_locally h ≡ false → h.kind ≡ Monitor → is_local h.query ≡ false
 isnt_local h e m = ap (λ k. is_monitor k && is_local h.query) (sym m) ∙ e
 
--- what is told of a monitor of a local query: who has left what queries saw before the command, and who has entered what they see now
+-- what a monitor of a local query is notified of: who has left what queries saw before the command, and who has entered what they see now
 module _ (w : WorldState) (changed : Changed) (h : Held) (locally : is_told_locally h ≡ true) where
   abbrev before_rows : List ℕ
   before_rows = matching (view_before w changed) h.query
@@ -42,7 +42,7 @@ module _ (w : WorldState) (changed : Changed) (h : Held) (locally : is_told_loca
       ap (λ k. told_since w changed h.name k h.query (rows_before w changed h)) (monitor_is h.kind (and_parts (is_monitor h.kind) (is_local h.query) locally).0)
       ∙ ap (λ b. told_since w changed h.name Monitor h.query (if b then before_rows else h.these)) (is_local_query h locally)
 
--- what isn't a monitor is told whatever the rows before were
+-- the events of what isn't a monitor don't depend on the rows before
 pub same_told : (w : WorldState) (changed : Changed) (name : List ℕ) (q : Query) (k : StoredKind) (a b : List ℕ) → is_monitor k ≡ false → told_since w changed name k q a ≡ told_since w changed name k q b
 unfolding told_since
 same_told w changed name q Kept a b o = refl
@@ -61,7 +61,7 @@ pub before_ascends : (w : WorldState) (changed : Changed) → IsAfter w changed 
 before_ascends w changed after =
     subst IsStrictlyIncreasing (sym (shows_world_before after.before w after.command changed after.kept after.stepped).0) (worlds_ascend after.before after.kept)
 
--- so what touched entities tell of who has left and who has entered is what it is told
+-- so it is notified of who has left and who has entered by the touched entities
 module _ (w : WorldState) (changed : Changed) (h : Held) (locally : is_told_locally h ≡ true) (kept : IsWellFormed w) (after : IsAfter w changed)
     (touched : List Touch) (exactly : AreTouched touched (view_before w changed) (view_of w)) where
   abbrev pub TellsMoves : List ℕ → (View → View → List ℕ) → Type 0

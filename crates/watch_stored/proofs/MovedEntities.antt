@@ -88,7 +88,7 @@ module _ (w : WorldState) (q : Query) (before moving : List ℕ) (told : IsTold 
       ∙ by_entered (is_among moving e) (is_among before e) (is_among now e) (others_same e)
       ∙ sym (among_filter (λ e. not (is_among before e)) now e))
 
--- ---- who is found of those whose ids don't tell it
+-- ---- who is found of those whose ids don't decide it
 
 pub found_is : (p untold_by : ℕ → Bool) (moving untold found : List ℕ) → untold ≡ filter untold_by moving → found ≡ filter p untold → (e : ℕ) → Contains moving e → untold_by e ≡ true → is_among found e ≡ p e
 found_is p untold_by moving untold found are_untold are_found e h asked =
@@ -122,7 +122,7 @@ pub if_ok_both : {T E : Type 0} (r : Result T E) {P Q R : T → Type 0} → ((x 
 if_ok_both (Ok x) both p q = both x p q
 if_ok_both (Err e) both p q = tt
 
--- one entity more behind a list, where it passes
+-- one more entity at the end of a list, where it passes
 pub one_more : (p : ℕ → Bool) (xs : List ℕ) (k : ℕ) (start old new : List ℕ) (b : Bool) → k < length xs → old ≡ start ++ filter p (take k xs) → b ≡ p (get_or xs k 0) → new ≡ old ++ cond b (get_or xs k 0 ∷ []) []
     → new ≡ start ++ filter p (take (k + 1) xs)
 one_more p xs k start old new b low before is now =
@@ -130,7 +130,7 @@ one_more p xs k start old new b low before is now =
     let kept : List ℕ = filter p (take k xs) in
     now ∙ ap (λ ys. ys ++ one) before ∙ append_assoc start kept one ∙ ap (λ t. start ++ (kept ++ cond t (get_or xs k 0 ∷ []) [])) is ∙ ap (λ ys. start ++ ys) (sym (filter_more p xs k 0 low))
 
--- where somebody may have moved, a command concerns the query
+-- where an entity may have moved, a command concerns the query
 pub is_somebody : (concerned : Bool) (moved : Moved) → (concerned ≡ false → moved ≡ Nobody) → (moved ≡ Nobody → ⊥) → true ≡ concerned
 is_somebody true moved nobody other = refl
 is_somebody false moved nobody other = absurd (other (nobody refl))

@@ -1,4 +1,4 @@
--- Moves of rows are made where they are kept, behind all others.
+-- Moves of rows are made where they are kept, after all others.
 use Rattle.std.specs.Prelude.{◌≡◌, ℕ, ◌+◌, List, [], ◌∷◌, ◌++◌, length, take}
 use Rattle.std.proofs.Common.{refl, ap, ◌∙◌, get_or}
 use Rattle.std.proofs.Math.ListN.{set}

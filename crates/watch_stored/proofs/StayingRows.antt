@@ -30,7 +30,7 @@ monitor_is OnAdd e = absurd (true≢false (sym e))
 monitor_is OnRemove e = absurd (true≢false (sym e))
 monitor_is OnSet e = absurd (true≢false (sym e))
 
--- ---- between equal rows nobody leaves or enters
+-- ---- between equal rows no entity leaves or enters
 
 none_missing : (xs ys : List ℕ) → ((x : ℕ) → list_any (λ y. y == x) xs ≡ true → list_any (λ y. y == x) ys ≡ true) → missing_from xs ys ≡ []
 none_missing [] ys all = refl
@@ -57,7 +57,7 @@ module _ (w : WorldState) (changed : Changed) (h : Held) (was : WasNow w changed
   pub rows_were : h.these ≡ matching (view_before w changed) h.query
   rows_were = was its_kind not_local
 
-  -- it is told who has left them and who has entered them
+  -- it is notified of who has left them and who has entered them
   pub told_of_compared : told_of_moves w changed h.name (missing_from h.these (matching (view_of w) h.query)) (missing_from (matching (view_of w) h.query) h.these) ≡ told_to w changed h
   unfolding told_since
   told_of_compared =
@@ -90,7 +90,7 @@ some_put w changed h compared concerned these are =
 pub isnt_searched : (changed : Changed) (h : Held) → is_compared h ≡ false → is_searched changed h ≡ false
 isnt_searched changed h other = ap (λ b. b && is_concerned h.query changed) other
 
--- of which the whole rows aren't taken
+-- which isn't evaluated
 pub spared_isnt_taken : (changed : Changed) (h : Held) → is_searched changed h ≡ false → is_taken_whole changed h ≡ true → ⊥
 spared_isnt_taken changed h spared whole = true≢false (sym whole ∙ ap (λ b. b && not (finds_moving h.query changed)) spared)
 
@@ -102,11 +102,11 @@ unput_isnt_taken w changed h none = by (is_searched changed h) refl
     by false e = ap (λ b. b && not (finds_moving h.query changed)) e
     by true e = absurd (true≢false (ap is_some (sym (ap (λ b. if b then Some (matching (view_of w) h.query) else None) e) ∙ none)))
 
--- where they are taken, it can't be told who may have moved
+-- where it is evaluated, it can't be found who may have moved
 pub taken_isnt_followed : (changed : Changed) (h : Held) → is_taken_whole changed h ≡ true → finds_moving h.query changed ≡ false
 taken_isnt_followed changed h whole = not-true (finds_moving h.query changed) (and_parts (is_searched changed h) (not (finds_moving h.query changed)) whole).1
 
--- what may be told nothing isn't compared
+-- what may have no events isn't compared
 pub untold_isnt : (changed : Changed) (h : Held) → may_tell changed h.kind h.query ≡ false → is_compared h ≡ false
 untold_isnt changed h none = ap (λ b. b && not (is_local h.query)) (by h.kind none)
   where
@@ -117,7 +117,7 @@ untold_isnt changed h none = ap (λ b. b && not (is_local h.query)) (by h.kind n
     by OnRemove none = refl
     by OnSet none = refl
 
--- one that is neither compared nor told locally is no monitor
+-- one that is neither compared nor a local monitor is no monitor
 pub neither_monitors : (h : Held) → is_compared h ≡ false → is_told_locally h ≡ false → is_monitor h.kind ≡ false
 neither_monitors h other far = by (is_monitor h.kind) (is_local h.query) other far
   where

@@ -1,4 +1,4 @@
--- Ids tell whether an entity is in the rows of a query, but for those who have to be asked.
+-- Ids decide whether an entity is in the rows of a query, but for those who have to be asked.
 use Rattle.std.specs.Prelude.{◌≡◌, ◌||◌, ℕ, Bool, ◌==◌, true, false, not, List, None, Some, is_none, if◌then◌else◌}
 use Rattle.std.specs.List.{Contains, list_any}
 use Rattle.std.proofs.Common.{refl, sym, ap, subst, ◌∙◌, true≢false}
@@ -67,7 +67,7 @@ module _ (v : WorldState) (q : Query) (e : ℕ) where
           let none : Some ids ≡ None = h ∙ shown ∙ ap (λ b. if b then Some (ids_of v e) else None) dead in
           absurd cc
 
-  -- ---- what its ids tell
+  -- ---- what its ids decide
 
   pub told_dead : is_live v e ≡ false → Some false ≡ told_by_ids q v e
   told_dead dead = sym (ap (λ b. if not b || lacks q (ids_of v e) then Some false else (if meets q (ids_of v e) then Some true else None)) dead)
@@ -78,7 +78,7 @@ module _ (v : WorldState) (q : Query) (e : ℕ) where
   pub told_met : (met : Bool) → is_live v e ≡ true → lacks q (ids_of v e) ≡ false → meets q (ids_of v e) ≡ met → (if met then Some true else None) ≡ told_by_ids q v e
   told_met met live has is = sym (λ i. if not (live i) || has i then Some false else (if is i then Some true else None))
 
-  -- of whom they don't tell it, lives
+  -- of whom they don't decide it, lives
   pub untold_lives : is_none (told_by_ids q v e) ≡ true → Contains (entities v) e
   untold_lives untold = by (is_live v e) refl
     where

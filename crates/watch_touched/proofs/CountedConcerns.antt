@@ -1,4 +1,4 @@
--- By how many entities are gathered it is told whether a command concerns a query, and whether all who may have moved can be found.
+-- How many entities are gathered decides whether a command concerns a query, and whether all who may have moved can be found.
 use Rattle.std.specs.Prelude.{◌≡◌, ◌==◌, ◌&&◌, ◌||◌, ℕ, suc, Bool, true, false, cond, not, List, [], ◌∷◌, ◌++◌, filter, length, map}
 use Rattle.std.proofs.Common.{arith, refl, ap, sym, true≢false, ◌∙◌}
 use Rattle.std.proofs.lemmas.Bool.{and_parts, not-true, or_right}
@@ -36,7 +36,7 @@ none_of_both (x ∷ xs) ys = not_none (length (xs ++ ys)) ∙ sym (ap (λ b. b &
 none_of : (p : Id → Bool) (changed : Changed) → (length (entities_of p changed) == 0) ≡ (not (any_by p changed.came) && not (any_by p changed.went))
 none_of p changed = none_of_both (entities_by p changed.came) (entities_by p changed.went) ∙ (λ i. none_by p changed.came i && none_by p changed.went i)
 
--- nobody is concerned where nobody was gathered, and births and deaths don't matter
+-- a query isn't concerned where no entity was gathered, and births and deaths don't matter
 spared : (births anchored came went : Bool) → ((not came && not went) && (anchored || not births)) ≡ not ((births && not anchored) || came || went)
 spared true true true true = refl
 spared true true true false = refl

@@ -1,4 +1,4 @@
--- Back from the entity of a variable, to those of variables before it, all are found from whom terms lead there: so all are found for whom those may stand of whom a fact came or went, and all behind.
+-- Back from the entity of a variable, to those of variables before it, all are found from whom terms lead there: so all are found for whom those may stand of whom a fact came or went, and all from whom they are reached.
 use Rattle.std.specs.Prelude.{◌≡◌, ℕ, zero, suc, ◌<◌, ◌≤◌, Bool, true, false, ◌&&◌, List, [], ◌∷◌, ◌++◌, flat_map, if◌then◌else◌}
 use Rattle.std.specs.List.{Contains, range_with_len}
 use Rattle.std.proofs.Common.{refl, sym, ap, subst, ◌∙◌, inl, inr, arith}

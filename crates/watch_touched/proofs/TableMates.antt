@@ -1,4 +1,4 @@
--- Those who stand in one table hold the same ids, so all of them lean on an entity, or nobody does.
+-- Those who stand in one table hold the same ids, so all of them lean on an entity, or none does.
 use Rattle.std.proofs.Common.{◌≡◌, ℕ, ◌+◌, ◌<◌, ◌==◌, ◌&&◌, Bool, true, false, true≢false, List, [], length, get_or, map, take, Option, Some, None, refl, sym, ap, subst, ◌∙◌, arith}
 use Rattle.std.specs.Prelude.{filter, flat_map, option_map, unwrap_or}
 use Rattle.std.specs.List.{Contains, list_all, list_any}
@@ -64,7 +64,7 @@ module _ (p : List Id → Id → Bool) (w : WorldState) (x : ℕ) (entities : Li
       let same = passing (λ z. z == (e.0).index) found (each_passes (λ (e : EntityId). list_any (λ y. y == e.index) found) entities are e.0 e.1) in
       subst (Contains found) (eq_same same.0 (e.0).index same.2 ∙ e.2) same.1)
 
-  -- where these ids tell that nobody leans, nobody does
+  -- where by these ids none leans, none does
   pub nobody_by : (ids : List Id) → HoldAll w ids indexes → list_any (λ i. matches (pairs_to x) i && p ids i) ids ≡ false → Adds (filter (leans p w x) indexes) found found
   nobody_by ids all fails =
       already (filter (leans p w x) indexes) found

@@ -1,4 +1,4 @@
--- The entities that a command touched: each has before it and after it what is told, and all others live as they did, with the same ids.
+-- The entities that a command touched: each has before and after the command the ids that are listed, and all others live as they did, with the same ids.
 use Rattle.std.specs.Prelude.{◌≡◌, ◌⊎◌, ℕ, ◌==◌, Bool, true, false, not, ◌&&◌, List, [], ◌∷◌, ◌++◌, map, Option, Some, None, Ok, option_map, if◌then◌else◌}
 use Rattle.std.specs.FinMap.{nat_cmp-IsAntisymmetric}
 use Rattle.std.specs.FinMap.Entries.{is_some-find}
@@ -108,7 +108,7 @@ module _ (w v : WorldState) (c : Command) (changed : Changed) (kept : IsWellForm
   lived_before : contains (view_before v changed).entities i ≡ is_live w i
   lived_before = ap (λ es. contains es i) (shown_before w v c changed kept done).0 ∙ listed_lives w i
 
-  -- what is told of it
+  -- what is listed of it
   pub new_is_told : is_born changed i ≡ true → held_in (view_before v changed) i ≡ None
   new_is_told new = ap (λ b. if b then Some ((view_before v changed).ids i) else None) (lived_before ∙ born_fresh w i v c changed done new)
 
@@ -182,7 +182,7 @@ listed_in_turn born died came went first second all begun more most = most ∙ a
     by None = append_assoc died came went
     by (Some e) = ap (λ is. e.index ∷ is) (append_assoc died came went)
 
--- a list that tells of each of these indexes in turn
+-- a list of each of these indexes in turn
 pub number_at : (is : List ℕ) (k : ℕ) → k < length is → Contains is (get_or is k 0)
 number_at is k within = (k, within, get_or_default is k (get_or is k 0) 0 within)
 

@@ -41,7 +41,7 @@ queries_matched_before w v c changed q kept done =
     let shown = shown_before w v c changed kept done in
     match_by_what_concerns (view_before v changed) (view_of w) q (record { entities = shown.0; ids = λ e. ap (filter (concerns q)) (shown.1 e) })
 
--- ---- where nobody was born and nobody died, the same live
+-- ---- where no entity was born and none died, the same live
 
 no_birth : (o : Option EntityId) → is_some o ≡ false → (i : ℕ) → option_map_or (λ e. e.index == i) o false ≡ false
 no_birth None none i = refl

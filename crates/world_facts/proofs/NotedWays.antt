@@ -1,4 +1,4 @@
--- Words that tell what is found from an entity on.
+-- Words that say what is found from an entity on.
 use Rattle.std.proofs.Common.{◌≡◌, ℕ, sym, ap, ◌∙◌, subst, inl, inr, Option, Some, IfSome}
 use Rattle.plan_steps.specs.Climbs.{AreKnown, told}
 use Rattle.plan_steps.specs.Words.{MayNote}
@@ -10,6 +10,6 @@ known_with above old new i word noted here known e = elim (noted e) [
   | inr at ↦ subst (λ w. IfSome (told w) (λ found. found ≡ above e)) (sym at.1) (subst (λ s. IfSome (told word) (λ found. found ≡ above s)) (sym at.0) here)
 ]
 
--- what a word tells is found from its entity on
+-- what a word says is found from its entity on
 pub tells : (above : ℕ → Option ℕ) (words : ℕ → ℕ) (e word : ℕ) (found : Option ℕ) (o : Option (Option ℕ)) → AreKnown above words → word ≡ words e → o ≡ told word → o ≡ Some found → found ≡ above e
 tells above words e word found o known at says is = subst (λ t. IfSome t (λ f. f ≡ above e)) (sym (ap told at) ∙ sym says ∙ is) (known e)

@@ -22,7 +22,7 @@ module _ {n : ℕ} {entities : List ℕ} {ids : ℕ → List Id} (links : AreLin
   start_inside true s e = absurd cc
   start_inside false s e = forks_inside s (ids s) refl e
 
-  -- ids of which none is a hit tell the targets
+  -- ids of which none is a hit give the targets
   pub seen : (hit : Bool) (targets all : Targets) → Some targets ≡ (if hit then None else Some all) → (false ≡ hit) × (targets ≡ all)
   seen true targets all e = absurd cc
   seen false targets all e = (refl, cc)

@@ -44,7 +44,7 @@ asked_anew {A} texts entity place last new within none other = record {
       (λ t of. other (ap (λ x. x.index) (get_or_default texts place last t within) ∙ of)) k (omega arith) t of);
 }
 
--- the start of a binding, and behind it the text that stands at a place
+-- the start of a binding, and after it the text that stands at a place
 pub binding_put : {A B : Type 0} (w : WorldState) (texts : List (EntityText A)) (entity place : ℕ) (t : EntityText A) (start : PaddedText B) (before first other : List ℕ) → IsTextAt w texts entity place → first ≡ (start.bytes).items → other ≡ ((get_or texts place t).bytes).items
     → (before ++ take start.count first) ++ take (get_or texts place t).alone other ≡ before ++ started w (text_of start, entity)
 binding_put w texts entity place t start before first other there here behind =

@@ -1,4 +1,4 @@
--- The plan of a simple query walks through the shortest list of tables and judges its other items behind that, so its probes are bounded by that list and by the number of items; and where it goes through given tables, by these.
+-- The plan of a simple query walks through the shortest list of tables and judges its other items after that, so its probes are bounded by that list and by the number of items; and where it goes through given tables, by these.
 use Rattle.std.proofs.Common.{◌≡◌, ℕ, zero, suc, ◌+◌, ◌<◌, ◌≤◌, ◌*◌, inl, inr, Bool, true, false, List, [], ◌∷◌, ◌++◌, length, replicate, refl, sym, ap, ◌∙◌, subst, arith, append-nil, mul_comm}
 use Rattle.std.specs.Prelude.{◌==◌, ◌&&◌, filter, flat_map, map, not, is_none, slice_get, slice_index, Option, Some, None, option_map, if◌then◌else◌}
 use Rattle.std.specs.List.{Contains, list_all, list_any, range_with_len, sum_by}
@@ -232,14 +232,14 @@ leads (Some (group level own inner)) h = absurd (false≢true h)
 scanned : (level : ℕ) (t : Term) → asks_one_id t ≡ true → entry_instructions mode.Scan (Some (simple level (must t))) ≡ Walk (variable_of t.source) (Tables (pattern_of t)) ∷ []
 scanned level t h = ap (λ b. Walk (variable_of t.source) (Tables (pattern_of t)) ∷ (if b then [] else Match t.source (pattern_of t) ∷ [])) (fixed t h)
 
--- `$this` has its entity behind it
+-- `$this` has its entity after it
 first_takes : (r : Ref) (b : Bool) → is_first r ≡ true → not (is_other 0 r && b) ≡ true
 first_takes (Var u) b h = ap (λ y. not (not y && b)) h
 first_takes (Is e) b h = absurd (false≢true h)
 first_takes Any b h = absurd (false≢true h)
 first_takes AnyOnce b h = absurd (false≢true h)
 
--- the steps of a query that a term leads: `$this` is judged behind its items
+-- the steps of a query that a term leads: `$this` is judged after its items
 led_steps : (q : Query) (first : ℕ) (t : Term) (js : List ℕ) → ((k : ℕ) → is_plain (entry_at q k) ≡ true) → entry_instructions mode.Scan (entry_at q first) ≡ Walk (variable_of t.source) (Tables (pattern_of t)) ∷ []
     → takes_this q (Deal mode.Scan first) ≡ true → instructions_of q (Deal mode.Scan first ∷ map (Deal mode.Check) js) ≡ walk_and_judge (variable_of t.source) (pattern_of t) (flat_map (λ j. judged_of (entry_at q j)) js ++ map one (cuts q))
 led_steps q first t js plain scan taken =

@@ -1,4 +1,4 @@
--- A text more behind what was sent and what is still to be.
+-- One more text after what was sent and what is still to be.
 use Rattle.std.proofs.Common.{◌≡◌, ◌≤◌, ℕ, List, [], ◌∷◌, ◌++◌, length, take, drop, refl, sym, ap, ◌∙◌, subst, append_assoc, arith}
 use Rattle.std.specs.Prelude.{Contains, Option, Some, Result, Ok, Err, IsErrAnd, OnErr}
 use Rattle.std.specs.Io.{StartsWith}
@@ -24,7 +24,7 @@ stops_here c before after text stops = record { sent = []; part = []; unsent = a
 pub sent_off : (a b : Option (List ℕ)) (before after : List ℕ) → Appends a b before → after ≡ [] → IsSent a b before after []
 sent_off a b before after wrote none = record { sent = before; wrote = wrote; whole = ap (λ t. before ++ t) none }
 
--- or a front of it
+-- or a prefix of it
 pub stops_off : {P : Type 0} (a b : Option (List ℕ)) (before after text : List ℕ) → (P → ⊥) → TakesFront a b before → after ≡ before → StopsSending P a b before after text
 stops_off a b before after text wrote front same = record {
   sent = [];
@@ -36,7 +36,7 @@ stops_off a b before after text wrote front same = record {
   stops = stops_same before after text same;
 }
 
--- s ++ z, where s ++ y is x ++ t and z is what y is behind another front
+-- s ++ z, where s ++ y is x ++ t and z is what y is after another prefix
 through : (s1 s2 x y z t u : List ℕ) → s1 ++ y ≡ x ++ t → s2 ++ z ≡ y ++ u → (s1 ++ s2) ++ z ≡ x ++ (t ++ u)
 through s1 s2 x y z t u first second =
     append_assoc s1 s2 z ∙ ap (λ l. s1 ++ l) second ∙ sym (append_assoc s1 y u) ∙ ap (λ l. l ++ u) first ∙ append_assoc x t u
@@ -63,7 +63,7 @@ stops_then a b c x y z t u first second =
           (stops_behind x t (s ++ y) (s ++ (second.sent ++ z)) u first.whole (stops_past s y (second.sent ++ z) u second.stops));
     }
 
--- the same as the front of a text
+-- the same as a prefix of a text
 pub stops_within : {P : Type 0} (a b : Option (List ℕ)) (x y t more all : List ℕ) → all ≡ t ++ more → StopsSending P a b x y t → StopsSending P a b x y all
 stops_within a b x y t more all is so = record {
   sent = so.sent;
@@ -95,7 +95,7 @@ stops_as a b x y t before after first last so = record {
   stops = subst (λ l. StopsWithin l (so.sent ++ after) t) (sym first) (subst (λ l. StopsWithin x (so.sent ++ l) t) (sym last) so.stops);
 }
 
--- what the writer has taken is a front of all
+-- what the writer has taken is a prefix of all
 pub taken_front : {P : Type 0} (a b : Option (List ℕ)) (before after text : List ℕ) (so : StopsSending P a b before after text) → before ++ text ≡ (so.sent ++ so.part) ++ (so.unsent ++ so.stops.rest)
 taken_front a b before after text so =
     ap (λ l. before ++ l) so.stops.front ∙ sym (append_assoc before so.stops.more so.stops.rest) ∙ ap (λ l. l ++ so.stops.rest) (sym so.stops.holds)
@@ -125,7 +125,7 @@ calm_still old new answer told calm =
 err_of : {T : Type 0} (d e : SendError) (r : Result T SendError) → r ≡ Err d → r ≡ Err e → d ≡ e
 err_of d e r first second = let P : Result _ SendError → Type 0 = λ q. IsErrAnd q (λ x. x ≡ e) in subst P first (subst P (sym second) refl)
 
--- an error that is passed on tells the same of the calls, also of those before
+-- an error that is passed on says the same of the calls, also of those before
 pub fails_same : {T U : Type 0} (e : SendError) (old mid new : Calls) (given : Result T SendError) (r : Result U SendError) → (IsCalm old → IsCalm mid) → given ≡ Err e
     → IsErrAnd r (λ x. x ≡ e) → FailsAtWrite mid given new → FailsAtWrite old r new
 fails_same e old mid new given (Ok x) before was passed told = absurd passed
@@ -152,17 +152,17 @@ calm_ok old new x calm = λ was. (
   λ _. calm was,
 )
 
--- what was told of a write that failed isn't that memory was refused
+-- what was answered of a write that failed isn't that memory was refused
 pub no_memory : {T : Type 0} (r : Result T SendError) → IsErrAnd r (λ x. x ≡ Write) → IsRefused r → ⊥
 no_memory (Ok x) is told = absurd is
 no_memory (Err d) is told = subst IsMemory is told
 
--- an error that is passed on is the one that was told
+-- an error that is passed on is the one that was answered
 pub passed_on : {U : Type 0} (e : SendError) (r : Result U SendError) → IsErrAnd r (λ x. x ≡ e) → IsRefused r → IsMemory e
 passed_on e (Ok x) is told = absurd is
 passed_on e (Err d) is told = subst IsMemory is told
 
--- so where it stopped is told by it
+-- so where it stopped follows from it
 pub stops_by : {P Q : Type 0} (a b : Option (List ℕ)) (x y t : List ℕ) → (Q → P) → StopsSending P a b x y t → StopsSending Q a b x y t
 stops_by a b x y t passed so = record { sent = so.sent; part = so.part; unsent = so.unsent; wrote = so.wrote; held = so.held; none = λ told. so.none (passed told); stops = so.stops }
 

@@ -1,4 +1,4 @@
--- What is told of an answer, from what else is told of it.
+-- What is known of an answer, from what else is known of it.
 use Rattle.std.proofs.Common.{◌≡◌, ◌==◌, ℕ, false, refl, sym, ◌∙◌, ap, subst}
 use Rattle.std.proofs.lemmas.Bool.{eqb-false}
 use Rattle.std.specs.Prelude.{Result, Ok, Err, IsErrAnd, OnErr, OnOk}
@@ -51,7 +51,7 @@ fill_too_long fill.TooLong is = refl
 pub on_err_at : {T E : Type 0} (P : Type 0) (r : Result T E) (e : E) → r ≡ Err e → OnErr r P → P
 on_err_at P r e is told = let Q : Result _ _ → Type 0 = λ q. OnErr q P in subst Q is told
 
--- the calls tell the same of an answer that passes an error on
+-- the calls say the same of an answer that passes an error on
 pub FaultyAt-same : {T U : Type 0} (error e : RunError) (old new : Calls) (given : Result T RunError) (r : Result U RunError) → given ≡ Err e → IsErrAnd r (λ x. x ≡ e)
     → FaultyAt error old given new → FaultyAt error old r new
 FaultyAt-same error e old new given (Ok x) was passed told = absurd passed

@@ -21,7 +21,7 @@ use Rattle.world_script.proofs.RunSteps.{all_taken}
 pub TakesFront-none : (a : Option (List ℕ)) (bytes : List ℕ) → TakesFront a a bytes
 TakesFront-none a bytes = (0, omega arith, Appends-nil a)
 
--- a front behind what was taken
+-- a prefix after what was taken
 TakesFront-behind : (a b c : Option (List ℕ)) (first bytes : List ℕ) → Appends a b first → TakesFront b c bytes → TakesFront a c (first ++ bytes)
 TakesFront-behind a b c first bytes all front =
     let n = front.0 in (
@@ -30,12 +30,12 @@ TakesFront-behind a b c first bytes all front =
       subst (Appends a c) (sym (take-append-add first bytes n)) (Appends-trans a b c first (take n bytes) all front.2),
     )
 
--- a front of some bytes is one of more
+-- a prefix of some bytes is one of more
 TakesFront-more : (a b : Option (List ℕ)) (bytes more : List ℕ) → TakesFront a b bytes → TakesFront a b (bytes ++ more)
 TakesFront-more a b bytes more front =
     (front.0, omega (arith, front.1, length-append bytes more), subst (Appends a b) (sym (take-append-le front.0 bytes more front.1)) front.2)
 
--- a front of the output was written at last
+-- a prefix of the output was written at last
 pub WroteFront-at : (told left old new newer : Option (List ℕ)) (h : Held) (s : SessionState) (a : Summary) (output : List ℕ) → IsRunning told left old new h s a output
     → TakesFront new newer output → WroteFront told left old newer
 WroteFront-at told left old new newer h s a output so front =
@@ -84,7 +84,7 @@ WroteFull-at told left later old new h s a output taken none full came so =
       written_all told left old new h s a output so none,
     )
 
--- a front of the output was written at the end
+-- a prefix of the output was written at the end
 pub WroteToEnd-at : (told left old new newer : Option (List ℕ)) (a : Summary) (output : List ℕ) → IsAtEnd left → HasEnded told left old new a output → TakesFront new newer output
     → WroteToEnd told left old newer
 WroteToEnd-at told left old new newer a output end so front =

@@ -1,11 +1,11 @@
--- The first line of a script, and the lines behind it.
+-- The first line of a script, and the lines after it.
 use Rattle.std.proofs.Common.{◌≡◌, ℕ, ◌<◌, ◌==◌, List, [], ◌∷◌, ◌++◌, length, refl, ◌∙◌, ap, arith}
 use Rattle.std.specs.List.{slice_split}
 use Rattle.std.proofs.lemmas.List.Splits.{slice_split_none, slice_split_at, length-slice_split}
 use Rattle.ecs_model.specs.Script.{lines_of, without_empty_last}
 use Rattle.script_streams.specs.Lines.{HasNoEnd}
 
--- a part with others behind it isn't the last
+-- a part with others after it isn't the last
 without_empty_last-cons : (line : List ℕ) (lines : List (List ℕ)) → 0 < length lines → without_empty_last (line ∷ lines) ≡ line ∷ without_empty_last lines
 without_empty_last-cons line [] some = absurd (omega arith)
 without_empty_last-cons [] (next ∷ lines) some = refl

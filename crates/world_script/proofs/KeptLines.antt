@@ -1,4 +1,4 @@
--- Lines as far as they are kept, and bytes cut behind their last line feed.
+-- Lines as far as they are kept, and bytes cut after their last line feed.
 use Rattle.std.proofs.Common.{◌≡◌, ℕ, zero, suc, ◌<◌, ◌==◌, Bool, true, false, List, [], ◌∷◌, ◌++◌, length, take, refl, sym, ◌∙◌, ap, subst, inl, inr, arith, append_assoc, append-nil}
 use Rattle.std.specs.Prelude.{nat_lt}
 use Rattle.std.proofs.lemmas.Bool.{ltb-true, ltb-false, lt-ltb, le-ltb, eqb-true}
@@ -8,7 +8,7 @@ use Rattle.ecs_model.specs.Script.{Form, LongLine, form_among, form_of, forms}
 use Rattle.script_streams.specs.Lines.{HasNoEnd, kept}
 use Rattle.world_script.specs.Whole.{EndsInFeed}
 
--- the front of a list is that of its front and what stands behind it
+-- the prefix of a list is that of its prefix and what stands after it
 take-front : (n : ℕ) (a b : List ℕ) → take n (take n a ++ b) ≡ take n (a ++ b)
 take-front zero a b = refl
 take-front (suc n) [] b = refl
@@ -54,7 +54,7 @@ as_long a b same = sym (kept_long a _ refl) ∙ ap (λ l. nat_lt 4096 (length l)
 pub form_of-kept : (a b : List ℕ) → kept a ≡ kept b → form_of a ≡ form_of b
 form_of-kept a b same = form_by a b (nat_lt 4096 (length a)) refl (sym (as_long a b same)) same
 
--- ---- bytes are whole lines, and behind their last line feed a part of one
+-- ---- bytes are whole lines, and after their last line feed a part of one
 
 pub record Cut (bytes : List ℕ) : Type 0 where
   pub whole : List ℕ
@@ -79,7 +79,7 @@ pub cut : (bytes : List ℕ) → Cut bytes
 cut [] = record { whole = []; part = []; is = refl; ends = inl refl; inside = All-nil (λ x. (x == 10) ≡ false) }
 cut (b ∷ bs) = let c = cut bs in cut_cons b bs c (b == 10) refl c.ends
 
--- whole lines behind whole lines
+-- whole lines after whole lines
 pub EndsInFeed-more : (a b : List ℕ) → EndsInFeed a → EndsInFeed b → EndsInFeed (a ++ b)
 EndsInFeed-more a b ends (inl none) = subst EndsInFeed (sym (ap (λ l. a ++ l) none ∙ append-nil a)) ends
 EndsInFeed-more a b ends (inr some) = inr (a ++ some.0, ap (λ l. a ++ l) some.1 ∙ sym (append_assoc a some.0 (10 ∷ [])))

@@ -1,4 +1,4 @@
--- What lines do, by what the session answered and what was told of it.
+-- What lines do, by what the session answered and what was printed of it.
 use Rattle.std.proofs.Common.{◌≡◌, ℕ, ℤ, Bool, false, List, [], ◌++◌, Option, None, Some, Result, Ok, Err, refl, sym, ◌∙◌, ap, subst, append-nil}
 use Rattle.std.specs.Prelude.{IfOk, codes, flat_map, is_some, if◌then◌else◌}
 use Rattle.std.specs.Result.{result_map_both}

@@ -31,7 +31,7 @@ HasEnded-line told left old new h s t a b before after taken some run so =
           (omega (arith, there, length-append so.whole so.part)) run_line so.has_run;
     }
 
--- what was read to the end is all that was told
+-- what was read to the end is all that is known
 IfSome-read : (P : List ℕ → Type 0) (told left : Option (List ℕ)) (script : List ℕ) → Consumes told left script → IsAtEnd left → P script → IfSome told P
 IfSome-read P None left script read end p = tt
 IfSome-read P (Some x) None script read end p = absurd read

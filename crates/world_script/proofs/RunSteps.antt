@@ -18,7 +18,7 @@ use Rattle.world_script.proofs.KeptLines.{form_of-kept, kept_front}
 
 -- ---- one line more, of what was run
 
--- behind whole lines, a line does what it does from their session on
+-- after whole lines, a line does what it does from their session on
 ended_line : (whole line : List ℕ) (s : SessionState) (summary : Summary) → HasNoEnd line → GoesOn whole s summary
     → effects_of (whole ++ (line ++ 10 ∷ [])) ≡ effects_of whole ++ line_effect s (summary.lines + 1) line ∷ []
 ended_line whole line s summary none on =
@@ -33,7 +33,7 @@ last_line whole line s summary some none on =
     on line ∙ ap (λ es. effects_of whole ++ es) (effects_from-line s (summary.lines + 1) line line [] (lines_of-last line some none)
     ∙ ap (λ es. e ∷ es) (effects_from-nil e.session (summary.lines + 1 + 1)))
 
--- and what stands behind it goes on from there
+-- and what stands after it goes on from there
 GoesOn-line : (whole line before after : List ℕ) (s t : SessionState) (old new : Summary) → HasNoEnd line → RunsLine (line_effect s (old.lines + 1) line) t before after old new
     → GoesOn whole s old → GoesOn (whole ++ (line ++ 10 ∷ [])) t new
 GoesOn-line whole line before after s t old new none run on = λ rest.
@@ -215,7 +215,7 @@ IsRunning-filled told left later old new h k s a output none came same more fits
       has_run = so.has_run;
     }
 
--- and so they are behind a line
+-- and so they are after a line
 pub room-line : (h k : Held) (e : Effect) (t : SessionState) (before after : List ℕ) (a b : Summary) → TakesLine true h k → RunsLine e t before after a b
     → a.lines + length h.unread ≤ most_bytes → b.lines + length k.unread ≤ most_bytes
 room-line h k e t before after a b taken run room =

@@ -1,4 +1,4 @@
--- What a line does where a front of what it prints is sent before it ends.
+-- What a line does where a prefix of what it prints is sent before it ends.
 use Rattle.std.proofs.Common.{◌≡◌, ◌⊎◌, ℕ, ◌+◌, Bool, true, inl, inr, cond, take, List, [], ◌++◌, length, Option, refl, sym, ◌∙◌, ap, subst, append_assoc, arith, length-append}
 use Rattle.std.specs.Prelude.{IfErr, IfOk, Result, Ok, Err, IsErrAnd, None, OnErr, OnOk, ⊤}
 use Rattle.std.specs.Io.KnownBytes.{Appends}
@@ -82,7 +82,7 @@ does_memory contents calls writer most e s before after (Err error) is = record 
   kept = λ _. refl;
 }
 
--- a front of the rows is sent
+-- a prefix of the rows is sent
 pub takes_stopped : {P : Type 0} (a b : Option (List ℕ)) (before after text : List ℕ) → StopsSending P a b before after text → TakesFront a b (before ++ text)
 takes_stopped a b before after text so =
     let taken = so.sent ++ so.part in
@@ -118,7 +118,7 @@ pub rows_stop : (error : SendError) (most : ℕ) (s : Standing) (n : ℕ) (a b :
 rows_stop send.Memory most s n a b before after name so = kept_stops s n a b before after name so.0 so.1 so.2
 rows_stop send.Write most s n a b before after name so = kept_stops s n a b before after name so.0 so.1 so.2
 
--- ---- calls of the writer behind the rows of a kept query
+-- ---- calls of the writer after the rows of a kept query
 
 abbrev IsUnsent : SendRowsError → Type 0
 IsUnsent (rows.Refused reason) = ⊥
@@ -141,7 +141,7 @@ rows_fail T U send.Memory old new told = λ calm. (
 )
 rows_fail T U send.Write old new told = λ calm. (λ _. (told calm).0 refl, λ none. absurd (none refl))
 
--- no events wait behind a line
+-- no events wait after a line
 pub none_waits-sent : (r : Result Bool SendError) (a b : Option (List ℕ)) (old new : Standing) (n : ℕ) (line before after : List ℕ) → old.waiting ≡ None
     → Does (line_effect (session_of old) n line) (session_of new) a b before after r → OnOk r (new.waiting ≡ None)
 none_waits-sent (Ok refused) a b old new n line before after none does = none_waits-line (Ok refused) old new n line before (does.0 ++ after) none does.2
@@ -181,7 +181,7 @@ HasEnded-sent told left old new newer a sent after more so =
       has_run = subst P (sym (append_assoc so.written sent after)) so.has_run;
     }
 
--- a line stopped: what was sent is a front of what it would have printed
+-- a line stopped: what was sent is a prefix of what it would have printed
 pub WroteFront-line : (told left old new newer : Option (List ℕ)) (h k : Held) (s : SessionState) (a : Summary) (before : List ℕ) → TakesLine true h k → k.read ≡ h.read
     → IsRunning told left old new h s a before → TakesFront new newer (before ++ (line_effect s (a.lines + 1) k.line).printed) → WroteFront told left old newer
 WroteFront-line told left old new newer h k s a before taken same so front =
@@ -190,7 +190,7 @@ WroteFront-line told left old new newer h k s a before taken same so front =
     let run : RunsLine e e.session before (before ++ e.printed) a b = record { session_left = refl; printed = refl; counted = refl } in
     WroteFront-at told left old new newer k e.session b (before ++ e.printed) (IsRunning-line told left old new h k s e.session a b before (before ++ e.printed) taken same run so) front
 
--- the calls tell the same of a run that ends with the line
+-- the calls say the same of a run that ends with the line
 pub FaultyAt-send : {T U : Type 0} (error : SendError) (old mid new : Calls) (given : Result T SendError) (r : Result U RunError) → (IsCalm old → IsCalm mid) → given ≡ Err error
     → IsErrAnd r (λ x. x ≡ send_error error) → FailsAtWrite mid given new → FaultyAt run.Write old r new
 FaultyAt-send error old mid new given (Ok x) before was passed told = absurd passed

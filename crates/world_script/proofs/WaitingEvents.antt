@@ -41,7 +41,7 @@ none-waits s e = none_made _ s.waiting e
 pub none_waits-first : (s : Standing) → session_of s ≡ first_session → s.waiting ≡ None
 none_waits-first s e = none-waits s (ap (λ t. t.waiting) e)
 
--- ---- no events are told where none wait
+-- ---- no events are delivered where none wait
 
 events-none : (s : SessionState) → s.waiting ≡ None → events s ≡ []
 events-none s e = ap (λ o. option_map_or (λ es. es) o []) e
@@ -55,7 +55,7 @@ no_events s none = events-none (session_of s) (waits-none s (none_of s.waiting n
 pub as_after_events : (s : Standing) → is_some s.waiting ≡ false → session_of s ≡ after_events (session_of s)
 as_after_events s none = after_events-none (session_of s) (waits-none s (none_of s.waiting none))
 
--- ---- no events wait behind a line
+-- ---- no events wait after a line
 
 module _ (s : SessionState) (n : ℕ) (none : s.waiting ≡ None) where
   behind_order : (order : SessionOrder) (answer : Answer) → (order_effect s n order answer).session.waiting ≡ None

@@ -1,4 +1,4 @@
--- The tables are kept in what is read of the world, and what nobody answers there nobody answers in the world.
+-- The tables are kept in what is read of the world, and a query without answers there has none in the world.
 use Rattle.std.proofs.Common.{◌≡◌, [], subst, sym}
 use Rattle.ecs_model.specs.rows.Rows.{answers}
 use Rattle.ecs_model.specs.rows.View.{view_of}

@@ -1,4 +1,4 @@
--- The query of the plan stays, whether it is planned anew or not.
+-- The query of the plan stays, whether it is planned again or not.
 use Rattle.std.proofs.Common.{List, ap, length, refl, sym, subst, ◌∙◌, true≢false}
 use Rattle.std.specs.Prelude.{max}
 use Rattle.ecs_id.specs.declared.TableKey.{TableKey}
@@ -93,7 +93,7 @@ returns-in_err-put_tables-clause-front g c = on_err_anyway _ (stops_here _ _ _ _
 pub returns-in_err-put_tables-clause-held : goal.returns-in_err-put_tables-clause-held
 returns-in_err-put_tables-clause-held g c = fault_memory _ _ _ _ c.from_residual-in_err-put_tables.ensures.1
 
--- an exit more behind each of the two calls that send rows
+-- one more exit after each of the two calls that send rows
 pub returns-in_err-send_planned_rows-clause-follows : goal.returns-in_err-send_planned_rows-clause-follows
 returns-in_err-send_planned_rows-clause-follows g c = c.plan_if_outgrown.ensures.follows
 

@@ -1,4 +1,4 @@
--- A query that nobody answers prints its count alone.
+-- A query without answers prints its count alone.
 use Rattle.std.proofs.Common.{[], ◌≤◌, append-nil, arith, length, refl, rules, subst, sym, ◌∙◌}
 use Rattle.std.specs.Prelude.{codes, max}
 use Rattle.ecs_model.specs.rows.Text.{rows_text}
@@ -60,6 +60,6 @@ returns-in_err-send_list-clause-writes g c =
 pub returns-then-has_nobody-clause-writes : goal.returns-then-has_nobody-clause-writes
 returns-then-has_nobody-clause-writes g c = calm_ok _ _ _ (calm_still _ _ _ c.in_ok-send_list.ensures.writes)
 
--- no probe was made where nobody stands there
+-- no probe was made where no entity stands there
 pub returns-then-has_nobody-clause-probes : goal.returns-then-has_nobody-clause-probes
 returns-then-has_nobody-clause-probes g c = record { shown = c.new-facts.result; world = c.new-facts.ensures; links = search rules; lists = c.keeps_lists.ensures; within = omega arith }

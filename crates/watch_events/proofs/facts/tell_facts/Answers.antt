@@ -28,7 +28,7 @@ returns-clause-told g c =
     (observed_by_term w q facts term (sym c.in-Some.ensures))
     ∙ ap (λ ks. (c.args.events.now).items ++ map told (filter (observes (view_of w) q) ks)) c.told_facts-facts.ensures
 
--- where one is refused, those before it are told
+-- where one is refused, the events of those before it were added
 pub returns-in_err-fact_event-clause-front : goal.returns-in_err-fact_event-clause-front
 returns-in_err-fact_event-clause-front g c =
     let w = c.args.world.now.state in

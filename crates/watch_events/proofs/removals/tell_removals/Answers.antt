@@ -26,7 +26,7 @@ returns-clause-told g c =
     c.went-facts.result.now c.loop-fact.fact-index c.loop-fact.invariant (omega arith) (observed_before_by_term w changed q c.went-facts.result.now term (sym c.in-Some.ensures))
     ∙ ap (λ ks. (c.args.events.now).items ++ map told (filter (observed_before w changed q) ks)) c.went-facts.ensures
 
--- where one is refused, those before it are told
+-- where one is refused, the events of those before it were added
 pub returns-in_err-removed_event-clause-front : goal.returns-in_err-removed_event-clause-front
 returns-in_err-removed_event-clause-front g c =
     let w = c.args.world.now.state in

@@ -1,4 +1,4 @@
--- Those before the one that is refused are told.
+-- The events of those before the one that is refused were added.
 use Rattle.std.proofs.Common.{◌∙◌}
 use Rattle.ecs_model.specs.declared.watches.EventKind.TheVariants.{Entered}
 use Rattle.ecs_model.specs.stored.Watches.{entity_event}

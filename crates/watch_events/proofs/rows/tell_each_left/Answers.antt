@@ -1,4 +1,4 @@
--- Those before the one that is refused are told.
+-- The events of those before the one that is refused were added.
 use Rattle.std.proofs.Common.{◌∙◌}
 use Rattle.watch_concerns.specs.Since.{left_event}
 use Rattle.ecs_print.proofs.Stops.{on_err_anyway, stops_at_item}

@@ -1,4 +1,4 @@
--- Who entered is told behind who left.
+-- The events of who entered come after those of who left.
 use Rattle.std.proofs.lemmas.Result.{on_err_weaker}
 use Rattle.ecs_print.proofs.Stops.{on_err_anyway, stops_behind, stops_sooner}
 use Rattle.watch_events.proofs.rows.tell_moves.Goals as goal

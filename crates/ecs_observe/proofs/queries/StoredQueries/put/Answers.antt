@@ -1,4 +1,4 @@
--- One stored query more stands behind the others, and is counted if it is told of commands.
+-- One more stored query stands after the others, and is counted if it is notified of commands.
 use Rattle.std.specs.Prelude.{◌+◌, All, cond}
 use Rattle.std.specs.String.{string_bytes}
 use Rattle.std.specs.List.{count_by}

@@ -1,4 +1,4 @@
--- What is against a new stored query is told, and else it is held.
+-- What is against a new stored query is answered, and else it is held.
 use Rattle.std.proofs.Common.{◌≡◌, ◌≢◌, All, None, Ok, Err, arith, refl, sym, ap, subst, ◌∙◌}
 use Rattle.std.proofs.lemmas.Result.{err_from_is_err_and}
 use Rattle.std.specs.Prelude.{◌&&◌, not}

@@ -1,4 +1,4 @@
--- An id that isn't told apart from the label's is its id.
+-- An id that doesn't differ from the label's is its id.
 use Rattle.std.proofs.Common.{ap, subst, sym, ◌∙◌}
 use Rattle.std.specs.Prelude.{Some, IfSome}
 use Rattle.ecs_id.specs.Id.{id_eq_same}
