@@ -65,7 +65,7 @@ impl<A: Allocator + Copy> Kept<A> {
 }
 
 impl<A: Allocator> Kept<A> {
-    /// Puts the tables behind those of a list, by rising serial.
+    /// Appends the tables to a list, by rising serial.
     ///
     /// Fails where memory is refused.
     pub fn push_tables<B: Allocator>(
@@ -130,7 +130,7 @@ fn is_kept<B: Allocator>(
         .is_some_and(|table| suits(patterns, table.ids()))
 }
 
-/// Puts those tables above a serial that are of the query behind the keys. Answers the greatest serial that was given.
+/// Appends to the keys those tables above a serial that are of the query. Answers the greatest serial that was given.
 fn take_in<A: Allocator, B: Allocator>(
     keys: &mut TableList<A>,
     judged: &mut u64,

@@ -37,7 +37,7 @@ impl<A: Allocator> Keep<'_, A> {
 pub(crate) struct Block {
     /// Of the first.
     pub(crate) serial: u128,
-    /// Bit `n` is set where the table is listed that is by `n` behind the first.
+    /// Bit `n` is set where the table is listed that comes `n` after the first.
     pub(crate) bits: u64,
     /// Of the first.
     pub(crate) slot: u32,
@@ -59,7 +59,7 @@ impl Block {
         }
     }
 
-    /// Puts a table behind the others, and tells whether it has a bit here for that.
+    /// Appends a table, and answers whether it has a bit here for that.
     pub(crate) fn put(&mut self, key: TableKey) -> bool
         requires block { IsBlock self.old }
         ensures keys { keys_of self.new ≡ keys_of self.old ++ (if result then key ∷ [] else []) }
@@ -73,7 +73,7 @@ impl Block {
         true
     }
 
-    /// The bit of a table, if it has one behind all others.
+    /// The bit of a table, if it has one after all others.
     fn bit_behind(&self, key: TableKey) -> Option<u32>
         ensures { IfSome result (λ bit. (self.now.width ≤ bit) × (bit < 64) × (key_at self.now bit ≡ key)) }
     {
@@ -88,7 +88,7 @@ impl Block {
         Some(bit)
     }
 
-    /// Puts the tables behind those of a list.
+    /// Appends the tables to a list.
     pub(crate) fn push_onto<A: Allocator>(
         &self,
         keys: &mut Vec<ListedKey, A>,
@@ -102,7 +102,7 @@ impl Block {
         Ok(())
     }
 
-    /// Puts the table of a bit behind those of a list, if it is set.
+    /// Appends the table of a bit to a list, if it is set.
     #[inline(always)]
     fn push_one<A: Allocator>(
         &self,

@@ -37,7 +37,7 @@ impl<A: Allocator> TableList<A> {
         }
     }
 
-    /// Puts a table behind the others.
+    /// Appends a table.
     ///
     /// Where memory is refused, the list stays as it was.
     pub fn push(&mut self, key: TableKey) -> Result<(), AllocError>
@@ -59,7 +59,7 @@ impl<A: Allocator> TableList<A> {
         self.blocks.retain(|block| block.bits != 0);
     }
 
-    /// Puts the tables behind those of another list.
+    /// Appends the tables to another list.
     ///
     /// Fails where memory is refused.
     pub fn push_onto<B: Allocator>(&self, keys: &mut Vec<ListedKey, B>) -> Result<(), AllocError>
@@ -72,7 +72,7 @@ impl<A: Allocator> TableList<A> {
     }
 }
 
-/// Puts a table into the last of some blocks, and tells whether it has a bit there.
+/// Puts a table into the last of some blocks, and answers whether it has a bit there.
 fn put_in_last(blocks: &mut [Block], key: TableKey) -> bool
     requires blocks { All IsBlock blocks.old }
     ensures keys { keys_in blocks.new ≡ keys_in blocks.old ++ (if result then key ∷ [] else []) }

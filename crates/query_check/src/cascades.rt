@@ -18,7 +18,7 @@ pub(crate) struct Cascading<'a> {
     /// In how many levels besides the whole query it stands.
     pub(crate) levels: usize,
     pub(crate) source: Option<Reference<'a>>,
-    /// The relationship behind the word.
+    /// The relationship after the word.
     pub(crate) along: Option<Reference<'a>>,
     /// Of the word.
     pub(crate) span: Span,

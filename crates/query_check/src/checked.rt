@@ -25,7 +25,8 @@ use std::alloc::{AllocError, Allocator};
 
 /// The checked query of a syntax, in a world.
 ///
-/// Fails with the fault that starts first, and of several at one place with the one told first. Or memory is refused.
+/// Fails with the fault that starts first, and of several at one place with the one reported first. Or memory is
+/// refused.
 pub fn check<A: Allocator + Copy, W: Lookup>(
     alloc: A,
     world: &W,
@@ -40,7 +41,7 @@ pub fn check<A: Allocator + Copy, W: Lookup>(
     }
 }
 
-/// The same of parts, where a want of memory is told apart from faults.
+/// The same of parts, where refused memory differs from a fault.
 fn answer<'a, A: Allocator + Copy, W: Lookup>(
     alloc: A,
     world: &W,

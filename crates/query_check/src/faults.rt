@@ -1,5 +1,5 @@
-//! The faults of a query's syntax, kind by kind: each function tells the least of its own and of the one that was found
-//! before.
+//! The faults of a query's syntax, kind by kind: each function answers the least of its own and of the one that was
+//! found before.
 
 ghost use Rattle.std.specs.Prelude.{◌≡◌, ◌≤◌, [], ◌∷◌, if◌then◌else◌, bytes_eq, flat_map, length, map, option_map};
 ghost use Rattle.std.specs.Prelude.{option_to_list, IfOk};
@@ -86,7 +86,7 @@ fn add_fault(least: &mut Option<Fault>, other: Option<Fault>)
     }
 }
 
-/// Whether a fault is told before another.
+/// Whether a fault is reported before another.
 fn is_before(fault: &Fault, other: &Fault) -> bool
     ensures { result ≡ is_before fault.now other.now }
 {
@@ -94,7 +94,7 @@ fn is_before(fault: &Fault, other: &Fault) -> bool
         || fault.span.start == other.span.start && number_of(fault.kind) < number_of(other.kind)
 }
 
-/// The place of a kind in the order in which faults at one place are told.
+/// The place of a kind in the order in which faults at one place are reported.
 fn number_of(kind: FaultKind) -> u8
     ensures { result ≡ kind_number kind }
 {
@@ -114,7 +114,7 @@ fn unknown_word(used: &Use<'_>) -> Option<Fault>
     }
 }
 
-/// The fault that a reference has for what it is to its part.
+/// The fault of a reference for what it is to its part.
 fn of_position<W: Lookup>(world: &W, used: &Use<'_>) -> Option<Fault>
     requires { IsFound (W.known world.now) used.now }
     ensures { let r = seen_reference (used.now).reference in option_to_list result
@@ -128,7 +128,7 @@ fn of_position<W: Lookup>(world: &W, used: &Use<'_>) -> Option<Fault>
     }
 }
 
-/// The fault of a relationship behind `up` or `cascade` that can't be traversed.
+/// The fault of a relationship after `up` or `cascade` that can't be traversed.
 fn not_traversable<W: Lookup>(world: &W, used: &Use<'_>) -> Option<Fault>
     requires { IsFound (W.known world.now) used.now }
     ensures { let r = seen_reference (used.now).reference in option_to_list result
@@ -322,7 +322,7 @@ fn of_variable(
     Some(fault)
 }
 
-/// The least fault of a `cascade` that stands where it may not: the first, if it is misplaced, and each behind it.
+/// The least fault of a `cascade` that stands where it may not: the first, if it is misplaced, and each after it.
 pub(crate) fn of_cascades(cascades: &[Cascading<'_>], found: Option<Fault>) -> Option<Fault>
     ensures { result ≡ least_from found (flat_map cascade_fault (misplaced (map seen_cascading cascades.now))) }
 {
@@ -337,7 +337,7 @@ pub(crate) fn of_cascades(cascades: &[Cascading<'_>], found: Option<Fault>) -> O
     of_others(others, least)
 }
 
-/// The least fault of each `cascade` behind the first.
+/// The least fault of each `cascade` after the first.
 fn of_others(others: &[Cascading<'_>], found: Option<Fault>) -> Option<Fault>
     ensures { result ≡ least_from found (flat_map cascade_fault (map seen_cascading others.now)) }
 {
@@ -354,7 +354,7 @@ fn misplaced(cascading: &Cascading<'_>) -> Fault
     fault_at(FaultKind::CascadePlace, cascading.span)
 }
 
-/// Whether a fault is told before the one that was found, if there is one.
+/// Whether a fault is reported before the one that was found, if there is one.
 fn is_less(fault: &Fault, found: Option<Fault>) -> bool
     ensures { lesser found fault.now ≡ (if result then Some fault.now else found) }
 {

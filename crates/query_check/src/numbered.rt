@@ -17,7 +17,7 @@ pub enum Entry<'q, A: Allocator = Global> {
     Group(usize, bool, &'q [usize]),
 }
 
-/// Of what kind an item is, for whoever needn't look at its piece.
+/// Of what kind an item is, where its piece needn't be looked at.
 #[derive(Clone, Copy, Debug, PartialEq, Eq)]
 pub enum EntryKind {
     Equality,

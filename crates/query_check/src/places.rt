@@ -56,7 +56,7 @@ fn place_in(number: usize, around: PartPlace, part: &Part<'_>) -> PartPlace
     }
 }
 
-/// Where the part behind a part stands, unless it begins a level.
+/// Where the part after a part stands, unless it begins a level.
 fn place_behind(
     places: &[PartPlace],
     around: PartPlace,

@@ -208,8 +208,8 @@ impl<A: Allocator> Query<A> {
         self.mentions.as_slice()
     }
 
-    /// The fault of a query whose matches are told when they come and go, which needs `$this`: NoThis at the whole
-    /// text.
+    /// The fault of a query whose monitor is notified of entities that enter and leave its rows, which needs `$this`:
+    /// NoThis at the whole text.
     pub fn monitor_fault(&self) -> Option<Fault>
         ensures { MatchOption result (monitored self.now ≡ Ok self.now) (λ fault. monitored self.now ≡ Err fault) }
     {
@@ -220,8 +220,9 @@ impl<A: Allocator> Query<A> {
         }
     }
 
-    /// The fault of a query whose ids are told when they are added, removed or set: NoThis, or NotOneTerm where it
-    /// isn't one term that must match, asks `$this` itself and names no other variable. Both are at the whole text.
+    /// The fault of a query whose observer is notified of ids that are added, removed or set: NoThis, or NotOneTerm
+    /// where it isn't one term that must match, asks `$this` itself and names no other variable. Both are at the whole
+    /// text.
     pub fn observer_fault(&self) -> Option<Fault>
         ensures { MatchOption result (observed self.now ≡ Ok self.now) (λ fault. observed self.now ≡ Err fault) }
     {
@@ -356,7 +357,7 @@ fn cascade_of<W: Lookup>(world: &W, cascades: &[Cascading<'_>]) -> Option<Entity
     entity_cascaded(world, &cascades.first()?.along)
 }
 
-/// The entity behind a `cascade`, ChildOf where none is written.
+/// The entity after a `cascade`, ChildOf where none is written.
 fn entity_cascaded<W: Lookup>(world: &W, along: &Option<Reference<'_>>) -> Option<EntityId>
     ensures { result ≡ entity_cascaded (W.known world.now) (option_map seen_reference along.now) }
 {
@@ -577,7 +578,7 @@ fn add_closing<A: Allocator>(pieces: &mut Vec<Piece<A>, A>) -> Result<(), AllocE
     Ok(())
 }
 
-/// Adds the item of a term behind which others stand: a term that must match, or alternatives.
+/// Adds the item of a term after which others stand: a term that must match, or alternatives.
 fn add_chain<A: Allocator, W: Lookup>(
     alloc: A,
     world: &W,
@@ -606,7 +607,7 @@ fn add_chain<A: Allocator, W: Lookup>(
     add_item(Item::Or(all), pieces)
 }
 
-/// Whether an alternative is at the front of parts.
+/// Whether parts begin with an alternative.
 fn has_alternative(parts: &[Part<'_>]) -> bool
     ensures { IsTrue result ↔ 0 < length (alternatives (map seen_part parts.now)) }
 {
@@ -615,7 +616,7 @@ fn has_alternative(parts: &[Part<'_>]) -> bool
         .is_some_and(|part| alternative(part).is_some())
 }
 
-/// Adds what each of the alternatives at the front of parts asks.
+/// Adds what each of the alternatives at the beginning of parts asks.
 fn add_alternatives<A: Allocator, W: Lookup>(
     world: &W,
     scope: &Scope<'_, '_>,
@@ -766,7 +767,7 @@ fn on_source_of(flags: &Option<Flags<'_>>) -> bool
     flags.is_none_or(|flags| flags.on_source)
 }
 
-/// The relationship along which ancestors are checked_term, if they are.
+/// The relationship along which ancestors are asked, if any are: ChildOf where none is written.
 fn up_of<W: Lookup>(world: &W, flags: &Option<Flags<'_>>) -> Option<u32>
     ensures { result ≡ up_of (W.known world.now) (option_map seen_flags flags.now) }
 {

@@ -55,7 +55,7 @@ fn occurrence_of<'a>(used: &Use<'a>) -> Option<Occurrence<'a>>
     }
 }
 
-/// The name of a variable, which stands behind its `$`.
+/// The name of a variable, which stands after its `$`.
 pub(crate) fn name_of<'a>(variable: &'a str) -> &'a [u8]
     ensures { result.now ≡ drop 1 variable.now }
 {
@@ -125,7 +125,7 @@ pub(crate) fn is_bound(parts: &[Part<'_>], places: &[PartPlace], name: &[u8], le
     false
 }
 
-/// Whether a part, behind which others stand, binds a variable of its level.
+/// Whether a part, after which others stand, binds a variable of its level.
 fn binds(part: &Part<'_>, behind: &[Part<'_>], name: &[u8]) -> bool
     ensures { result ≡ binds name.now (alternatives (map seen_part behind.now)) (seen_part part.now) }
 {
@@ -139,7 +139,7 @@ fn binds(part: &Part<'_>, behind: &[Part<'_>], name: &[u8]) -> bool
     }
 }
 
-/// Whether each of the alternatives at the front of parts names a variable.
+/// Whether each of the alternatives at the beginning of parts names a variable.
 fn alternatives_name(parts: &[Part<'_>], name: &[u8]) -> bool
     ensures { result ≡ list_all (names_variable name.now) (alternatives (map seen_part parts.now)) }
 {

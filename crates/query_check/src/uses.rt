@@ -140,7 +140,7 @@ fn entity_named<W: Lookup>(world: &W, reference: &Reference<'_>) -> Option<Entit
     }
 }
 
-/// The relationship behind a term's `up` or `cascade`, if it is written.
+/// The relationship after a term's `up` or `cascade`, if it is written.
 fn risen<'t, 'a>(term: &'t TermSyntax<'a>) -> Option<&'t Reference<'a>>
     ensures { option_map (λ r. seen_reference r.now) result ≡ risen (seen_term term.now) }
 {

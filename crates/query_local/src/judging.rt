@@ -51,7 +51,7 @@ fn hold<A: Allocator>(pieces: &[Piece<A>], entity: u32, ids: &[Id]) -> bool
     at_end(nesting)
 }
 
-/// What is known of the levels behind one piece more.
+/// What is known of the levels after one more piece.
 fn behind<A: Allocator>(nesting: Nesting, piece: &Piece<A>, entity: u32, ids: &[Id]) -> Nesting
     requires { open_groups nesting + 1 < 2 ^ 64 }
     ensures value { result ≡ behind entity ids.now nesting (seen_piece piece.now) }

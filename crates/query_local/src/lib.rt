@@ -1,5 +1,5 @@
-//! Local queries: those that ask each entity for its own ids alone. Whether an entity is `$this` of one of their rows,
-//! and who leaves or enters the rows by a command, is told by ids, without a world.
+//! Local queries: those that ask each entity for its own ids alone. Ids decide, without a world, whether an entity is
+//! `$this` of one of their rows, and who leaves or enters the rows by a command.
 #![tactic(auto)]
 
 mod items;

@@ -3,7 +3,7 @@
 ghost use Rattle.std.specs.Prelude.{◌≡◌, ◌+◌, ◌<◌, ◌≤◌, ◌^◌};
 ghost use Rattle.query_local.specs.Judging.{at_end, end_of_failed, end_of_holding, open_groups, with_item};
 
-/// What is known of the levels that are open behind some pieces. The whole query has depth 0, and a group one more than
+/// What is known of the levels that are open after some pieces. The whole query has depth 0, and a group one more than
 /// the level around it.
 #[derive(Clone, Copy)]
 pub(crate) enum Nesting {
@@ -14,7 +14,7 @@ pub(crate) enum Nesting {
     Failed(usize, usize),
 }
 
-/// An item more of the innermost level, at this depth.
+/// One more item of the innermost level, at this depth.
 pub(crate) fn with_item(holds: bool, depth: usize) -> Nesting
     ensures { result ≡ with_item holds depth }
 {
@@ -51,8 +51,8 @@ pub(crate) fn end_of_failed(depth: usize, inside: usize) -> Nesting
     }
 }
 
-/// Whether the whole query holds, where all groups end: a level around one that holds doesn't, and one around one that
-/// doesn't does.
+/// Whether the whole query holds, where all groups end: the level around one that holds doesn't, and the level around
+/// one that doesn't does.
 pub(crate) fn at_end(nesting: Nesting) -> bool
     ensures { result ≡ at_end nesting }
 {

@@ -15,15 +15,15 @@ use query_check::Query;
 use std::alloc::{AllocError, Allocator};
 
 /// The entities, by their indexes in ascending order, that are `$this` of some row before a command and of none after
-/// it, and the other way round.
+/// it, and those that are so only after it.
 #[derive(Drop)]
 pub struct Told<A: Allocator> {
     pub left: Vec<u32, A>,
     pub entered: Vec<u32, A>,
 }
 
-/// Who leaves and who enters the rows of a local query, of all entities, between two worlds that differ in what the
-/// touched ones hold alone. It is handed neither world.
+/// Who leaves and who enters the rows of a local query, of all entities, between two worlds that differ only in what
+/// the touched ones hold. It gets neither world.
 pub fn local_told<A: Allocator + Copy>(
     alloc: A,
     query: &Query<A>,

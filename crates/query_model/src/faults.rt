@@ -3,7 +3,7 @@
 use crate::Span;
 use thiserror::Error;
 
-/// What can be wrong with the text of a query, in the order in which faults at one place are told.
+/// What can be wrong with the text of a query, in the order in which faults at one place are reported.
 #[derive(Clone, Copy, Debug, PartialEq, Eq, Error)]
 pub enum FaultKind {
     /// No token begins here.
@@ -42,7 +42,7 @@ pub enum FaultKind {
     /// An event observer whose query isn't one plain term.
     #[error("the query of an event observer is not one plain term")]
     NotOneTerm,
-    /// A `cascade` in a group, of another source than `$this`, or behind another one.
+    /// A `cascade` in a group, of another source than `$this`, or after another one.
     #[error("cascade in a group, of another source than $this, or behind another one")]
     CascadePlace,
 }

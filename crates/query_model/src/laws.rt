@@ -31,7 +31,7 @@ pub fn the_variables_of_a_text_ascend()
     ensures { VariablesAscend }
 {}
 
-/// Law: it is enough to tell a variable that isn't bound at its first occurrence, since the least fault is the same:
+/// Law: it is enough to report a variable that isn't bound at its first occurrence, since the least fault is the same:
 /// for each text, and for any parts whose variables stand in the order of the text.
 pub fn a_variable_is_told_at_its_first_occurrence()
     ensures of_texts { FirstSufficesInTexts }

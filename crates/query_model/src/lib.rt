@@ -1,8 +1,8 @@
 //! The language of queries: its text, its grammar and its check, as definitions in `specs/`, and the plain types that
 //! they share with the code.
 //!
-//! Nothing here knows how a world is kept: the check asks for what a world knows of names and traits. `laws` has what
-//! is proved of the definitions alone.
+//! Nothing here depends on how a world is stored: the check asks for what a world knows of names and traits. `laws` has
+//! what is proved of the definitions alone.
 #![tactic(auto)]
 
 pub mod faults;

@@ -12,7 +12,7 @@ pub enum Position {
     Component,
     Source,
     Target,
-    /// The relationship behind `up` or `cascade`.
+    /// The relationship after `up` or `cascade`.
     Risen,
     /// The left side of an equality.
     Left,

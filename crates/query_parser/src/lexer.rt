@@ -35,8 +35,8 @@ pub struct Token<'a> {
     pub span: Span,
 }
 
-/// The tokens of a query's text, each the longest that can stand at its place, and then its end, the
-/// empty slice behind the last byte.
+/// The tokens of a query's text, each the longest that can stand at its place, and then its end, the empty slice after
+/// the last byte.
 ///
 /// Space, tab, carriage return and line feed may stand between tokens. Fails with the first character
 /// at which no token can begin, in all its bytes, or where memory is refused.
@@ -65,7 +65,7 @@ pub fn lex<'a, A: Allocator + Copy>(
     }
 }
 
-/// The token that follows a place in the text, behind blanks.
+/// The token that follows a place in the text, after blanks.
 fn next_token<'a>(text: &'a str, from: usize) -> Result<Token<'a>, QueryFault>
     requires { from ≤ length text.now }
     ensures answers { Answers FaultKind.Lex seen result (next_of text.now from) }
@@ -107,7 +107,7 @@ fn next_token<'a>(text: &'a str, from: usize) -> Result<Token<'a>, QueryFault>
     })
 }
 
-/// The kind and the length of the longest token at the front.
+/// The kind and the length of the longest token at the beginning.
 fn sign(rest: &[u8]) -> Option<(TokenKind, usize)>
     requires { 0 < length rest.now }
     ensures found { MatchOption result (sign_at rest.now ≡ None)
@@ -129,7 +129,7 @@ fn sign(rest: &[u8]) -> Option<(TokenKind, usize)>
     Some((TokenKind::Mark(mark), spelling(mark).len()))
 }
 
-/// How many bytes the variable takes whose `$` is at the front.
+/// How many bytes the variable takes whose `$` is the first byte.
 fn variable_len(rest: &[u8]) -> Option<usize>
     requires { 0 < length rest.now }
     ensures { MatchOption result (variable_at (drop 1 rest.now) ≡ None)
@@ -144,7 +144,7 @@ fn variable_len(rest: &[u8]) -> Option<usize>
     Some(1 + word_len(name))
 }
 
-/// How many bytes at the front may stand in a variable.
+/// How many bytes at the beginning may stand in a variable.
 fn word_len(rest: &[u8]) -> usize
     ensures count { result ≡ prefix_len is_word_byte rest.now }
     ensures within { result ≤ length rest.now }
@@ -181,7 +181,7 @@ fn spelling(mark: Mark) -> &'static str
     }
 }
 
-/// The longest mark at the front.
+/// The longest mark at the beginning.
 
 fn mark(rest: &[u8]) -> Option<Mark>
     requires { 0 < length rest.now }
@@ -216,7 +216,7 @@ fn has_second(rest: &[u8], byte: u8) -> bool
     rest.len() > 1 && rest[1] == byte
 }
 
-/// How many blanks stand at the front.
+/// How many blanks stand at the beginning.
 fn blanks_len(rest: &[u8]) -> usize
     ensures count { result ≡ prefix_len is_query_blank rest.now }
     ensures within { result ≤ length rest.now }
@@ -224,7 +224,7 @@ fn blanks_len(rest: &[u8]) -> usize
     rest.iter().take_while(|byte| is_blank(**byte)).count()
 }
 
-/// How many bytes at the front may stand in a name.
+/// How many bytes at the beginning may stand in a name.
 fn name_len(rest: &[u8]) -> usize
     ensures count { result ≡ prefix_len is_name_byte rest.now }
     ensures within { result ≤ length rest.now }

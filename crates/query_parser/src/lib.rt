@@ -67,7 +67,7 @@ fn text_length(tokens: &[Token<'_>]) -> usize
     }
 }
 
-/// Puts the parts that a step completes behind those before them.
+/// Appends the parts that a step completes.
 fn complete<'a, A: Allocator + Copy>(
     parts: &mut Vec<Part<'a>, A>,
     draft: &Draft<'a>,
@@ -91,7 +91,7 @@ fn complete<'a, A: Allocator + Copy>(
 // (a part is large: each kind is made in a function of its own, where there is room already, so a step makes none of
 // the others)
 
-/// Puts the term that was read behind the parts before it.
+/// Appends the term that was read.
 fn put_term<'a, A: Allocator + Copy>(
     parts: &mut Vec<Part<'a>, A>,
     draft: &Draft<'a>,
@@ -104,7 +104,7 @@ fn put_term<'a, A: Allocator + Copy>(
     Ok(())
 }
 
-/// Puts the equality that was read behind the parts before it.
+/// Appends the equality that was read.
 fn put_equality<'a, A: Allocator + Copy>(
     parts: &mut Vec<Part<'a>, A>,
     draft: &Draft<'a>,
@@ -118,7 +118,7 @@ fn put_equality<'a, A: Allocator + Copy>(
     Ok(())
 }
 
-/// Puts the begin of a group behind the parts before it.
+/// Appends the beginning of a group.
 fn put_opening<'a, A: Allocator + Copy>(
     parts: &mut Vec<Part<'a>, A>,
     draft: &Draft<'a>,
@@ -131,7 +131,7 @@ fn put_opening<'a, A: Allocator + Copy>(
     Ok(())
 }
 
-/// Puts the end of a group behind the parts before it.
+/// Appends the end of a group.
 fn put_closing<A: Allocator + Copy>(parts: &mut Vec<Part<'_>, A>) -> Result<(), AllocError>
     ensures { IfOk result (λ _. map seen_part parts.new.items ≡ map seen_part parts.old.items ++ closed ∷ []) }
 {
@@ -140,7 +140,7 @@ fn put_closing<A: Allocator + Copy>(parts: &mut Vec<Part<'_>, A>) -> Result<(), 
     Ok(())
 }
 
-/// How many groups are open behind a step.
+/// How many groups are open after a step.
 fn nested(depth: usize, nesting: Nesting) -> usize
     requires { depth + 1 < 2 ^ 64 }
     ensures { result ≡ nested depth nesting }

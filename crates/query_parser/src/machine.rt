@@ -14,21 +14,21 @@ use crate::{Token, TokenKind};
 use query_model::syntax::{Flags, Reference, Rise, RiseWord, Role, Spoken, TermSyntax};
 use query_model::{Mark, Span};
 
-/// What was read of the present item. Which of it is read, the state tells.
+/// What was read of the present item. The state says which of it is read.
 #[derive(Clone, Copy)]
 pub struct Draft<'a> {
     pub role: Role,
     /// The term, or an equality's left side as its first reference; its span begins where the item does.
     pub term: TermSyntax<'a>,
-    /// A variable at the front of the item, with its `$`.
+    /// A variable with which the item begins, with its `$`.
     pub name: &'a str,
-    /// The source behind which the machine stands, or the right side of an equality.
+    /// The source that was read last, or the right side of an equality.
     pub last: Reference<'a>,
-    /// The word of the rise behind which it stands.
+    /// The word of the rise that was read last.
     pub word: RiseWord,
 }
 
-/// What is to come, or behind what the machine stands.
+/// What is to come, or what was read last.
 #[derive(Clone, Copy)]
 pub enum State {
     /// A term is to come; in the role And an item, since nothing stands before it.
@@ -49,13 +49,13 @@ pub enum State {
     FlagsNext,
     BehindSelf,
     RiseNext,
-    /// Behind `up` or `cascade`, and whether `self` stands before it.
+    /// After `up` or `cascade`, and whether `self` stands before it.
     BehindUp(bool),
     AlongNext(bool),
     BehindVariable,
     /// With whether the sign is `==`.
     OtherSide(bool),
-    /// Behind an item, and whether an alternative to it may follow.
+    /// After an item, and whether an alternative to it may follow.
     BehindItem(bool),
     Finished,
 }
@@ -80,7 +80,7 @@ pub enum Completed {
     Opening,
 }
 
-/// A step: the state behind it, the part that was completed, and whether a group was opened or closed.
+/// A step: the state after it, the part that was completed, and whether a group was opened or closed.
 #[derive(Clone, Copy)]
 pub struct Move {
     pub state: State,
@@ -230,7 +230,7 @@ fn is_reserved(word: &str) -> bool
     }
 }
 
-/// Behind an item, of which a part may be completed by what follows it.
+/// After an item, of which a part may be completed by what follows it.
 fn item_step(depth: usize, may_join: bool, part: Completed, token: &Token<'_>) -> Option<Move>
     ensures { (draft : item.Draft) → option_map (seen_step depth draft) result
         ≡ put_first draft part (machine.item_step depth may_join (seen token.now)) }
@@ -257,7 +257,7 @@ fn item_step(depth: usize, may_join: bool, part: Completed, token: &Token<'_>) -
     }
 }
 
-/// Behind a target: the bracket that ends the term.
+/// After a target: the bracket that ends the term.
 fn close_step<'a>(draft: &mut Draft<'a>, token: &Token<'a>) -> Option<Move>
     ensures { (depth : ℕ) → option_map (seen_step depth draft.new) result
         ≡ machine.close_step depth (draft.old).role (seen_term (draft.old).term) (seen token.now) }
@@ -284,7 +284,7 @@ fn target_step<'a>(draft: &mut Draft<'a>, token: &Token<'a>) -> Option<Move>
     Some(go_to(State::BehindTarget))
 }
 
-/// Behind the first side of a pair: its comma.
+/// After the first side of a pair: its comma.
 fn comma_step(token: &Token<'_>) -> Option<Move>
     ensures { (depth : ℕ) (draft : item.Draft) → option_map (seen_step depth draft) result
         ≡ machine.comma_step depth draft.role (seen_term draft.term) (seen token.now) }
@@ -295,7 +295,7 @@ fn comma_step(token: &Token<'_>) -> Option<Move>
     }
 }
 
-/// Behind a source or flags: a target, or the end of the term.
+/// After a source or flags: a target, or the end of the term.
 fn args_step<'a>(draft: &mut Draft<'a>, token: &Token<'a>) -> Option<Move>
     ensures { (depth : ℕ) → option_map (seen_step depth draft.new) result
         ≡ machine.args_step depth (draft.old).role (seen_term (draft.old).term) (seen token.now) }
@@ -306,7 +306,7 @@ fn args_step<'a>(draft: &mut Draft<'a>, token: &Token<'a>) -> Option<Move>
     }
 }
 
-/// Behind the relationship of `up(R)` or `cascade(R)`: its bracket.
+/// After the relationship of `up(R)` or `cascade(R)`: its bracket.
 fn behind_along_step(token: &Token<'_>) -> Option<Move>
     ensures { (depth : ℕ) (draft : item.Draft) → option_map (seen_step depth draft) result
         ≡ machine.along_step depth draft.role (seen_term draft.term) (seen token.now) }
@@ -317,7 +317,7 @@ fn behind_along_step(token: &Token<'_>) -> Option<Move>
     }
 }
 
-/// Behind the first reference of a term: its arguments, or what follows the term.
+/// After the first reference of a term: its arguments, or what follows the term.
 fn first_step<'a>(depth: usize, draft: &mut Draft<'a>, token: &Token<'a>) -> Option<Move>
     ensures { option_map (seen_step depth draft.new) result ≡ machine.first_step depth (draft.old).role
         ((draft.old).term).shows_value
@@ -333,7 +333,7 @@ fn first_step<'a>(depth: usize, draft: &mut Draft<'a>, token: &Token<'a>) -> Opt
     }
 }
 
-/// Flags, perhaps behind a source: `self`, `up` or `cascade`.
+/// Flags, perhaps after a source: `self`, `up` or `cascade`.
 fn flags_step<'a>(draft: &mut Draft<'a>, token: &Token<'a>) -> Option<Move>
     ensures { (depth : ℕ) → option_map (seen_step depth draft.new) result
         ≡ machine.flags_step depth (draft.old).role ((draft.old).term).shows_value
@@ -346,7 +346,7 @@ fn flags_step<'a>(draft: &mut Draft<'a>, token: &Token<'a>) -> Option<Move>
     }
 }
 
-/// `up` or `cascade`, perhaps behind a source and `self`.
+/// `up` or `cascade`, perhaps after a source and `self`.
 fn rise_step<'a>(own: bool, draft: &mut Draft<'a>, token: &Token<'a>) -> Option<Move>
     ensures { (depth : ℕ) → option_map (seen_step depth draft.new) result
         ≡ rise_step depth (draft.old).role ((draft.old).term).shows_value (seen_reference ((draft.old).term).component)
@@ -365,7 +365,7 @@ fn rise_step<'a>(own: bool, draft: &mut Draft<'a>, token: &Token<'a>) -> Option<
     }
 }
 
-/// Behind `self`: `|` and `up`, or what follows flags.
+/// After `self`: `|` and `up`, or what follows flags.
 fn self_step<'a>(draft: &mut Draft<'a>, token: &Token<'a>) -> Option<Move>
     ensures { (depth : ℕ) → option_map (seen_step depth draft.new) result
         ≡ machine.self_step depth (draft.old).role ((draft.old).term).shows_value
@@ -400,7 +400,7 @@ fn raise<'a>(term: &mut TermSyntax<'a>, own: bool, word: RiseWord, along: Option
     apply(term, Some(flags));
 }
 
-/// Behind `up` or `cascade`: its relationship, or what follows flags.
+/// After `up` or `cascade`: its relationship, or what follows flags.
 fn up_step<'a>(own: bool, draft: &mut Draft<'a>, token: &Token<'a>) -> Option<Move>
     ensures { (depth : ℕ) → option_map (seen_step depth draft.new) result
         ≡ machine.up_step depth (draft.old).role ((draft.old).term).shows_value
@@ -413,7 +413,7 @@ fn up_step<'a>(own: bool, draft: &mut Draft<'a>, token: &Token<'a>) -> Option<Mo
     }
 }
 
-/// Behind `up` or `cascade`: a relationship without brackets, or what follows flags.
+/// After `up` or `cascade`: a relationship without brackets, or what follows flags.
 fn plain_up_step<'a>(own: bool, draft: &mut Draft<'a>, token: &Token<'a>) -> Option<Move>
     ensures { (depth : ℕ) → option_map (seen_step depth draft.new) result
         ≡ plain_up_step depth (draft.old).role ((draft.old).term).shows_value
@@ -444,7 +444,7 @@ fn along_step<'a>(own: bool, draft: &mut Draft<'a>, token: &Token<'a>) -> Option
     Some(go_to(State::BehindAlong))
 }
 
-/// Behind a source: `|` and flags, or what follows a source.
+/// After a source: `|` and flags, or what follows a source.
 fn behind_source_step<'a>(draft: &mut Draft<'a>, token: &Token<'a>) -> Option<Move>
     ensures { (depth : ℕ) → option_map (seen_step depth draft.new) result
         ≡ machine.behind_source_step depth (draft.old).role ((draft.old).term).shows_value
@@ -516,7 +516,7 @@ fn start_step<'a>(
     Some(go_to(State::BehindFirst))
 }
 
-/// Behind the word of an access: its bracket.
+/// After the word of an access: its bracket.
 fn bracket_step(role: Role, shows_value: bool, token: &Token<'_>) -> Option<Move>
     ensures { (depth : ℕ) (draft : item.Draft) → option_map (seen_step depth draft) result
         ≡ machine.bracket_step depth role shows_value (seen token.now) }
@@ -527,7 +527,7 @@ fn bracket_step(role: Role, shows_value: bool, token: &Token<'_>) -> Option<Move
     }
 }
 
-/// A body behind an access; where nothing stands before that, perhaps an operator.
+/// A body after an access; where nothing stands before that, perhaps an operator.
 fn body_step<'a>(
     role: Role,
     shows_value: bool,
@@ -564,14 +564,14 @@ fn access_step(role: Role, token: &Token<'_>) -> Option<Move>
     }
 }
 
-/// Whether a word tells an access.
+/// Whether a word is one of an access.
 fn is_access(word: &str) -> bool
     ensures { result ≡ is_access word.now }
 {
     word == "in" || word == "out" || word == "inout" || word == "none"
 }
 
-/// A term; where nothing stands before it, perhaps an operator or an equality; behind `!` perhaps a group.
+/// A term; where nothing stands before it, perhaps an operator or an equality; after `!` perhaps a group.
 fn term_step<'a>(role: Role, draft: &mut Draft<'a>, token: &Token<'a>) -> Option<Move>
     ensures { (depth : ℕ) → option_map (seen_step depth draft.new) result
         ≡ machine.term_step depth role (seen token.now) }
@@ -613,7 +613,7 @@ fn plain_term_step<'a>(role: Role, draft: &mut Draft<'a>, token: &Token<'a>) -> 
     }
 }
 
-/// Behind a variable at the front of an item: `==`, `!=`, or what follows a term's first reference.
+/// After a variable with which an item begins: `==`, `!=`, or what follows a term's first reference.
 fn variable_step<'a>(depth: usize, draft: &mut Draft<'a>, token: &Token<'a>) -> Option<Move>
     ensures { option_map (seen_step depth draft.new) result ≡ machine.variable_step depth
         (drop 1 ((draft.old).name).now) ((draft.old).term).span
