@@ -18,7 +18,7 @@ use watch_concerns::{
     Concern, NOBODY, concern_of, is_asked_by_all, joined_concerns, lacks, meets, says_how_far,
 };
 
-/// A query with what it asks, if that is kept. If not, each term is asked anew.
+/// A query with what it asks, if that is kept. If not, each term is asked each time.
 #[derive(Drop)]
 pub struct AskedQuery<'q, A: Allocator> {
     query: &'q Query<A>,

@@ -1,5 +1,5 @@
-//! Which ids concern a query: where only facts of others come and go, its rows are of the same entities. What stored
-//! queries are told of commands, as definitions in `specs/`, with the laws that are proved of them.
+//! Which ids concern a query: where only facts of other ids come and go, its rows are of the same entities. What stored
+//! queries are notified of after commands stands as definitions in `specs/`, with the laws that are proved of them.
 #![tactic(auto)]
 
 mod anchoring;

@@ -14,8 +14,8 @@ use std::alloc::Allocator;
 
 /// Whether each term of a query asks `$this` or its ancestors, or the entity of a variable itself; and each variable is
 /// linked with one before it: an item directly in the level that the variable belongs to holds only where one of their
-/// entities holds a pair with the other as the target. Then a fact of somebody else moves only those in or out of the
-/// query's rows from whom terms lead to that, besides those below it.
+/// entities holds a pair with the other as the target. Then a fact of another entity moves in or out of the query's
+/// rows only those from whom terms lead to that entity, and those below it.
 ///
 /// Takes no memory, and time in the square of the pieces at most.
 #[tactic(auto, unfolding(crate::specs::Linked::is_linked))]

@@ -1,4 +1,4 @@
-//! What an entity's ids alone tell of whether it is `$this` of a row of a query.
+//! Whether an entity is `$this` of a row of a query, as far as its ids alone decide it.
 
 ghost use Rattle.std.specs.Prelude.{◌≡◌, map, false};
 ghost use Rattle.std.specs.List.{list_any};
@@ -16,7 +16,7 @@ use query_check::{Item, Piece, Query};
 use query_model::query::{Ref, Term};
 use std::alloc::Allocator;
 
-/// Whether an entity with these ids lacks what a term in front of all groups asks of `$this` itself. Then it is `$this`
+/// Whether an entity with these ids lacks what a term before all groups asks of `$this` itself. Then it is `$this`
 /// of no row of the query.
 ///
 /// Takes no memory, and time in the terms and the ids.
@@ -62,7 +62,7 @@ pub(crate) fn any_matches(term: &Term, ids: &[Id]) -> bool
 
 /// Whether an entity with these ids meets all that a query asks, by these ids alone: the items outside all groups,
 /// while it lacks what some item of each group asks. Then it is `$this` of a row, if it lives. Where an item asks
-/// somebody else, or for a variable, that isn't told.
+/// another entity, or for a variable, this isn't known.
 ///
 /// Takes no memory, and time in the terms and the ids.
 #[tactic(auto, unfolding(crate::specs::OwnIds::meets))]

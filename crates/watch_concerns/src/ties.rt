@@ -1,4 +1,4 @@
-//! Whether a query asks nobody but `$this`, its ancestors, and those with whom `$this` itself holds a pair.
+//! Whether a query asks only `$this`, its ancestors, and those with whom `$this` itself holds a pair.
 
 ghost use Rattle.std.specs.Prelude.{◌≡◌};
 ghost use Rattle.std.specs.List.{list_all, list_any};
@@ -14,8 +14,8 @@ use std::alloc::Allocator;
 
 /// Whether each term of a query asks `$this` or its ancestors, or the entity of a variable itself with whom `$this`
 /// itself holds a pair: an item directly in the level that the variable belongs to holds only where that is so. Then a
-/// fact of somebody else moves only those in or out of the query's rows who hold a pair with that as the target,
-/// besides those below it.
+/// fact of another entity moves in or out of the query's rows only those who hold a pair with that entity as the
+/// target, and those below it.
 ///
 /// Takes no memory, and time in the square of the pieces at most.
 #[tactic(auto, unfolding(crate::specs::Tied::is_tied))]

@@ -2,8 +2,8 @@
 
 ghost use Rattle.watch_concerns.specs.ToldLaws.{QueriesMentionOnce, TellsSince};
 
-/// Law: what a stored query is told of a command follows from the world after it and from what has changed, and of a
-/// monitor from the entities of its rows before.
+/// Law: what a stored query is notified of after a command follows from the world after it and from what has changed,
+/// and of a monitor from the entities of its rows before.
 pub fn watches_are_told_since()
     ensures { TellsSince }
 {}

@@ -12,7 +12,7 @@ use std::alloc::Allocator;
 /// For whom an id concerns a query.
 #[derive(Clone, Copy)]
 pub struct Concern {
-    /// For its holder, or for somebody else.
+    /// For its holder, or for another entity.
     pub anyone: bool,
     /// For others than its holder and those below that.
     pub others: bool,
@@ -20,14 +20,14 @@ pub struct Concern {
     pub below: bool,
 }
 
-/// For nobody.
+/// For none.
 pub const NOBODY: Concern = Concern {
     anyone: false,
     others: false,
     below: false,
 };
 
-/// For whom an id concerns a query: what `concerns`, `concerns_others` and `concerns_below` tell, by one pass.
+/// For whom an id concerns a query: the answers of `concerns`, `concerns_others` and `concerns_below`, by one pass.
 ///
 /// Takes no memory, and time in the terms of the query.
 #[tactic(auto, unfolding(crate::specs::Concerns::concerns, crate::specs::Others::concerns_others, crate::specs::Others::concerns_below))]

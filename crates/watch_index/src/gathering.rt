@@ -18,7 +18,7 @@ use watch_concerns::is_asked_by_all;
 /// What a command has changed.
 #[derive(Clone, Copy)]
 pub struct Happened<'c> {
-    /// Whether somebody was born or died.
+    /// Whether an entity was born or died.
     pub lives: bool,
     /// The facts that came.
     pub came: &'c [FactKey],

@@ -24,7 +24,7 @@ use std::marker::Model;
 #[derive(Drop)]
 pub struct WatchIndex<A: Allocator = Global> {
     lists: Lists<A>,
-    // A mark goes only with all others, as the index gets empty.
+    // A mark is cleared only with all others, when the index gets empty.
     marks: Marks,
 }
 
@@ -68,8 +68,7 @@ impl<A: Allocator + Copy> WatchIndex<A> {
 
     /// Puts into an empty list the numbers of the stored queries that look out for something that has happened, in
     /// ascending order.
-    ///
-    /// The list stays where it is, as a move of it would take more than all else where nobody is led to.
+    /// The list stays where it is, as a move of it would take more than all else where no stored query is led to.
     #[inline(always)]
     pub fn led(
         &self,

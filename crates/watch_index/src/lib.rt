@@ -1,4 +1,4 @@
-//! Which stored queries may be told of a command, by what they look out for, and in which order they stand.
+//! Which stored queries may be notified of a command, by what they look out for, and in which order they stand.
 //!
 //! ```text
 //! let mut index = WatchIndex::new(rt.alloc(), RandomState::new(&rt)?);

@@ -8,7 +8,7 @@ ghost use Rattle.watch_index.specs.declared.occasion.Occasion.{Occasion as Await
 use crate::occasion::{Occasion, Way};
 use component_index::{Part, Pattern};
 
-/// Marks of occasions, some of which share one: whatever has no mark is looked out for by nobody.
+/// Marks of occasions, some of which share one: whatever has no mark is looked out for by none.
 ///
 /// To ask for one takes a handful of instructions, and no hash.
 #[derive(Clone, Copy)]

@@ -38,10 +38,10 @@ pub struct Named<V, A: Allocator> {
 /// Values in the order in which they were put in, each found by its name.
 ///
 /// A look-up takes the time of a hash of the name and of a search by halves. A value that is taken out moves no other:
-/// of each behind it a pointer moves.
+/// of each after it a pointer moves.
 #[derive(Drop)]
 pub struct NameOrder<V, A: Allocator> {
-    /// In boxes, so that a removal moves none of those behind it but its pointer. Values may be written, and nothing
+    /// In boxes, so that a removal moves none of those after it but its pointer. Values may be written, and nothing
     /// else.
     pub made: Vec<Box<Named<V, A>, A>, A>,
     // the number of each by its name
@@ -60,7 +60,7 @@ impl<V, A: Allocator + Copy> NameOrder<V, A> {
         }
     }
 
-    /// Makes a value ready to be put behind the others, in a box and beside its name as a key, and makes room for it.
+    /// Makes a value ready to be put after the others, in a box and beside its name as a key, and makes room for it.
     ///
     /// Fails where memory is refused, and then the order has what it had.
     pub fn prepare(
@@ -176,7 +176,7 @@ impl<V, A: Allocator> NameOrder<V, A> {
         }
     }
 
-    /// Puts a value that was made ready behind the others. None of them has its name.
+    /// Puts a value that was made ready after the others. None of them has its name.
     pub fn put(&mut self, key: String<A>, made: Box<Named<V, A>, A>)
         requires order { IsInOrder self.old }
         requires ready { IsReady self.old made.value.name made.value.value (key, made) }
@@ -188,7 +188,7 @@ impl<V, A: Allocator> NameOrder<V, A> {
         self.made.push_reserved(made);
     }
 
-    /// Takes out the value of a name. Those behind it close the gap, by moves of pointers.
+    /// Takes out the value of a name. Those after it close the gap, by moves of pointers.
     pub fn remove(&mut self, name: &str) -> Option<Box<Named<V, A>, A>>
         requires order { IsInOrder self.old }
         ensures value { option_map (λ b. b.value.value) result ≡ lookup (is_key name.now) (entries_of self.old) }

@@ -14,7 +14,7 @@ pub enum Way {
 /// What may happen that a stored query looks out for.
 #[derive(Clone, Copy, Debug, PartialEq, Eq, Hash)]
 pub enum Occasion {
-    /// Somebody is born or dies.
+    /// An entity is born or dies.
     Life,
     /// A fact comes or goes of a tag that concerns every query.
     AskedByAll,

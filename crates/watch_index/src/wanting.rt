@@ -11,8 +11,8 @@ use query_check::Query;
 use query_model::query::{Ref, Term};
 use std::alloc::{AllocError, Allocator};
 
-/// All that a stored query of a kind looks out for, so that nothing else changes its rows or is told to it. Takes
-/// whether the query is anchored.
+/// All that a stored query of a kind looks out for: nothing else changes its rows or is in its events. Takes whether
+/// the query is anchored.
 ///
 /// Fails where memory is refused.
 pub fn occasions_of<A: Allocator>(

@@ -57,7 +57,7 @@ impl<V, A: Allocator + Copy> WatchOrder<V, A> {
         }
     }
 
-    /// Makes a value ready to be put behind the others, and lists it for what it looks out for. Then it is put or
+    /// Makes a value ready to be put after the others, and lists it for what it looks out for. Then it is put or
     /// forgotten.
     ///
     /// Fails where memory is refused, and then nothing has changed.
@@ -129,7 +129,7 @@ impl<V, A: Allocator + Copy> WatchOrder<V, A> {
 }
 
 impl<V, A: Allocator> WatchOrder<V, A> {
-    /// Puts a value that was made ready behind the others. None of them has its name.
+    /// Puts a value that was made ready after the others. None of them has its name.
     pub fn put(&mut self, key: String<A>, made: Boxed<V, A>)
         requires open { IsOpen self.old made.value.name made.value.value (key, made) }
         requires free { lookup (is_key (string_bytes made.value.name)) (entries_of self.old.order) ≡ None }
