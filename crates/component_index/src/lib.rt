@@ -36,7 +36,7 @@ use std::marker::Model;
 ///
 /// But for growth, `enter` and `leave` take time in the number of the table's ids, and not in that of the tables;
 /// `tables_of` takes constant time. So it is whichever ids the tables have, since nobody who chooses them knows the
-/// random keys. A list of an entity that no table ever mentioned is told to be empty without a look-up. Only `enter`
+/// random keys. A list of an entity that no table ever mentioned is known to be empty without a look-up. Only `enter`
 /// takes memory.
 #[derive(Drop)]
 pub struct ComponentIndex<A: Allocator = Global> {
@@ -101,7 +101,7 @@ impl<A: Allocator + Copy> ComponentIndex<A> {
 }
 
 impl<A: Allocator> ComponentIndex<A> {
-    /// The entered tables that have an id that the pattern matches, each once and in no order that is told.
+    /// The entered tables that have an id that the pattern matches, each once and in no particular order.
     pub fn tables_of(&self, pattern: Pattern) -> &[ListedKey]
         ensures listed { (key : TableKey) → Contains result.now key ↔ IsMatched self.now pattern key }
         ensures once { IsDistinct table_eq result.now }

@@ -11,8 +11,8 @@ use std::alloc::{AllocError, Allocator};
 
 /// A mark for each index that an id mentions which was noted, up to the greatest of them. Marks stay.
 ///
-/// So a pattern that asks for an entity that no table ever mentioned is told without a look-up, and most entities are
-/// such.
+/// So a pattern that asks for an entity that no table ever mentioned is answered without a look-up, and most entities
+/// are such.
 pub type Marks<A> = Vec<bool, A>;
 
 /// Notes what these ids mention.

@@ -38,7 +38,7 @@ const NONE: Range = Range { start: 0, count: 0 };
 
 /// For tables, by slot, where they stand in their long lists, in the order in which they came into these.
 ///
-/// Who reads a place looks whether the table stands there: so no list depends on what is noted here, but only how fast
+/// Who reads a place checks whether the table stands there: so no list depends on what is noted here, but only how fast
 /// it loses a table.
 #[derive(Drop)]
 pub struct Places<A: Allocator> {
@@ -56,7 +56,7 @@ pub struct Places<A: Allocator> {
 }
 
 impl<A: Allocator> Places<A> {
-    /// No places, which take no memory. The words of lists are told apart by these random keys.
+    /// No places, which take no memory. The words of lists are distinguished by these random keys.
     pub fn new(alloc: A, random: RandomState) -> Places<A>
     where
         A: Copy,
@@ -231,7 +231,7 @@ fn set_number<A: Allocator>(by_slot: &mut Vec<u32, A>, slot: u32, number: u32) {
     }
 }
 
-// Moves the places of a table to others, from one on, which are not behind them.
+// Moves the places of a table to others, from one on, which are not after them.
 fn move_places<A: Allocator>(places: &mut Vec<ListPlace, A>, range: Range, start: usize) {
     for index in 0..range.count {
         let Some(&place) = places.get(range.start.saturating_add(index)) else {

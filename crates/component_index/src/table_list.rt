@@ -218,7 +218,7 @@ fn searched(keys: &[ListedKey], key: TableKey) -> Option<usize>
     keys.iter().position(|other| names(*other, key))
 }
 
-// Notes for the last table that it comes to this place.
+// Notes this place for the last table.
 fn note_last_at<A: Allocator>(place: usize, keys: &[ListedKey], places: &mut Places<A>, word: u64) {
     if let Some(last) = keys.last() {
         places.moved(last.slot(), word, place);

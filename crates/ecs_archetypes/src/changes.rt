@@ -78,7 +78,7 @@ impl<A: Allocator + Copy> Archetypes<A> {
         let _ = &self.entities;
     }
 
-    // Gives the memory back that rows left behind in the tables from which the moves led.
+    // Gives back the memory that rows have left in the tables from which the moves led.
     fn shrink_left(&mut self, moves: &[EntityMove])
         ensures held { HoldAlike (holdings_of self.new) (holdings_of self.old) }
         ensures alike { StandAlike self.old.tables self.new.tables }

@@ -44,7 +44,7 @@ impl<A: Allocator + Copy> Archetypes<A> {
         leave_alone(&mut self.entities, &mut self.tables, entity, place);
     }
 
-    /// Takes each table that has an id that the pattern matches away, and their keys for good. None of them has rows.
+    /// Releases each table that has an id that the pattern matches, with their keys for good. None of them has rows.
     pub fn release_matched(&mut self, pattern: Pattern)
         requires empty { (k : TableKey) → HasMatch self.old.tables pattern k → rows_in self.old.tables k ≡ 0 }
         ensures gone { (k : TableKey) → HasMatch self.new.tables pattern k → ⊥ }
@@ -57,7 +57,7 @@ impl<A: Allocator + Copy> Archetypes<A> {
         self.tables.release_matched(pattern);
     }
 
-    // Gives the memory back that rows left behind in a table, and its room: not between a plan and its moves.
+    // Gives back the memory that rows have left in a table, and its room: not between a plan and its moves.
     // Of a table that is gone it does nothing.
     pub(crate) fn shrink(&mut self, key: TableKey)
         ensures entities { self.new.entities ≡ self.old.entities }

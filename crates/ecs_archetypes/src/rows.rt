@@ -40,7 +40,7 @@ pub fn enter<A: Allocator>(
 }
 
 /// Moves the row of an entity to another table, and answers where it stands then. The entity whose row fills the gap
-/// stands there from then on. The memory that the row left behind is kept.
+/// stands there from then on. The memory that the row has left is kept.
 pub fn carry<A: Allocator>(
     entities: &mut EntityIndex<A>,
     tables: &mut EnteredTables<A>,
@@ -70,7 +70,7 @@ pub fn carry<A: Allocator>(
     now
 }
 
-/// `carry`, after which the table that lost the row gives back the memory that its rows left behind.
+/// `carry`, after which the table that lost the row gives back the memory that its rows have left.
 pub fn carry_alone<A: Allocator + Copy>(
     entities: &mut EntityIndex<A>,
     tables: &mut EnteredTables<A>,
@@ -117,7 +117,7 @@ pub fn leave<A: Allocator>(
     entities.set_place(other, place);
 }
 
-/// `leave`, after which the table that lost the row gives back the memory that its rows left behind.
+/// `leave`, after which the table that lost the row gives back the memory that its rows have left.
 pub fn leave_alone<A: Allocator + Copy>(
     entities: &mut EntityIndex<A>,
     tables: &mut EnteredTables<A>,

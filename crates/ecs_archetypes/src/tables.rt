@@ -111,7 +111,7 @@ impl<A: Allocator + Copy> EnteredTables<A> {
         Ok(to)
     }
 
-    /// Gives the memory back that rows left behind in a table, and its room.
+    /// Gives back the memory that rows have left in a table, and its room.
     pub fn shrink(&mut self, key: TableKey)
         requires stands { IsSome (table_at self.old key) }
         ensures rows { (p : Place) → row_at self.new p ≡ row_at self.old p }
@@ -183,7 +183,7 @@ impl<A: Allocator> EnteredTables<A> {
         self.store.set_column(key, id, bytes);
     }
 
-    /// Takes each table that has an id that the pattern matches away, with its entry. None of them has rows.
+    /// Releases each table that has an id that the pattern matches, with its entry. None of them has rows.
     pub fn release_matched(&mut self, pattern: Pattern)
         requires stored { IsStored self.old }
         requires empty { (k : TableKey) → HasMatch self.old pattern k → rows_in self.old k ≡ 0 }
@@ -220,7 +220,7 @@ fn enter_made<A: Allocator + Copy, R: Room>(
         → KeepsSizes (known_in s) added (known_in store.old) → HaveGrown added s store.new
         × AreEntered store.new index.new }
 {
-    // (any answer tells that the tables are whole)
+    // (any answer says that the tables are whole)
     let _ = store.get(key);
     let rows = room.rows(key);
     if key.serial <= last {

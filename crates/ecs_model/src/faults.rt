@@ -74,14 +74,14 @@ pub enum CommandError {
     Memory,
 }
 
-/// Why a command of a session is refused. What is wrong with a new stored query is told in the order BadName,
+/// Why a command of a session is refused. What is wrong with a new stored query is answered in the order BadName,
 /// QueryTaken, TooManyStored, and then the fault of its text. A refused command changes nothing.
 #[derive(Clone, Copy, Debug, PartialEq, Eq, Error)]
 pub enum SessionRefusal {
     /// A refusal of the world.
     #[error("{0}")]
     OfWorld(Refusal),
-    /// Events wait: no command is carried out before they were told.
+    /// Events wait: no command is carried out before they were delivered.
     #[error("events wait to be told")]
     EventsPending,
     /// No stored query has the name, or none that is kept.
@@ -93,7 +93,7 @@ pub enum SessionRefusal {
     /// As many queries are stored as there can be.
     #[error("as many queries are stored as there can be")]
     TooManyStored,
-    /// A fault of a query's text, or of a query for what should be told of it.
+    /// A fault of a query's text, or of a query for its kind.
     #[error("{0}")]
     Faulty(Fault),
 }

@@ -10,7 +10,7 @@ pub const MOST_NUMBERS: usize = 8;
 /// The value of a fact: up to eight numbers, one for each field of its component.
 #[derive(Clone, Copy, Debug)]
 pub struct Value {
-    /// Those behind the count are zero.
+    /// Those after the count are zero.
     numbers: [i128; MOST_NUMBERS],
     count: usize,
 }

@@ -1,6 +1,6 @@
-//! What a session keeps of queries, and what it tells of its world.
+//! What a session keeps of queries, and the events of its world.
 
-/// What is told of a stored query.
+/// As what a query is stored.
 #[derive(Clone, Copy, Debug, PartialEq, Eq)]
 pub enum StoredKind {
     /// Its rows, when they are asked for.

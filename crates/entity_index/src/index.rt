@@ -173,7 +173,7 @@ impl<A: Allocator> SlotIndex<A> {
         })
     }
 
-    /// Deletes an entity, and tells whether it did. A dead entity and a built-in one can't be deleted.
+    /// Deletes an entity, and answers whether it did. A dead entity and a built-in one can't be deleted.
     pub fn delete(&mut self, entity: EntityId) -> bool
         ensures answer { result ≡ is_deletable self.old entity }
         ensures deleted { OnTrue result (self.new ≡ without_entity self.old entity.index) }
@@ -193,7 +193,7 @@ impl<A: Allocator> SlotIndex<A> {
         true
     }
 
-    /// Where the row of a live entity stands, as it was told last.
+    /// Where the row of a live entity stands, as `set_place` wrote it last.
     pub fn place(&self, entity: EntityId) -> Option<Place>
         ensures { result ≡ place_of self.now entity }
     {
@@ -204,7 +204,7 @@ impl<A: Allocator> SlotIndex<A> {
         }
     }
 
-    /// Tells where the row of a live entity stands.
+    /// Writes where the row of a live entity stands.
     pub fn set_place(&mut self, entity: EntityId, place: Place)
         requires { IsTrue (is_alive self.old entity) }
         ensures placed { self.new ≡ with_place self.old entity.index place }

@@ -29,7 +29,7 @@ impl<A: Allocator> Model for EntitySet<A> {
 }
 
 impl<A: Allocator> EntitySet<A> {
-    /// The set of nobody.
+    /// The empty set.
     pub fn new(alloc: A) -> Self
         ensures { result.items ≡ [] }
     {
@@ -53,8 +53,8 @@ impl<A: Allocator> EntitySet<A> {
         have_words(self.words.as_slice(), entities)
     }
 
-    /// Takes out some and then puts in others, of those for whom there is room. It takes no memory, and a few steps for
-    /// each of these.
+    /// Takes out some and then puts in others, as far as there is room for them. It takes no memory, and a few steps
+    /// for each of these.
     pub fn exchange(&mut self, left: &[u32], entered: &[u32])
         ensures { self.new ≡ exchanged left.now entered.now self.old }
     {

@@ -80,7 +80,7 @@ fn lengthen<T, A: Allocator>(list: &mut Vec<T, A>) -> Result<(), AllocError>
     Ok(())
 }
 
-// A list grows seldom. In line, what that takes would stand between what comes before it and behind it.
+// A list grows seldom. In line, what that takes would stand between what comes before it and after it.
 #[cold]
 #[inline(never)]
 fn grow<T, A: Allocator>(list: &mut Vec<T, A>, additional: usize) -> Result<(), AllocError>

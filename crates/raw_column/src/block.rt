@@ -28,7 +28,7 @@ impl From<AllocError> for Memory {
 /// Rows of values, by column. In a column each value has as many bytes. It takes memory in `new` and `reserve`, and
 /// gives it back in `shrink_to` and when it is dropped.
 ///
-/// All columns lie in one allocation, one behind the other. The places after the last row are zero, so that a new row
+/// All columns lie in one allocation, one after another. The places after the last row are zero, so that a new row
 /// is there without a write. A block without columns counts its rows alone.
 #[derive(Drop)]
 pub struct Block<A: Allocator = Global> {
@@ -228,8 +228,8 @@ impl<A: Allocator> Block<A> {
         self.len = last;
     }
 
-    /// Moves a row to the end of `other`. Each pair tells a column here and one of `other` that gets its value, and the
-    /// columns that aren't told get zeros. The last row of this block fills the gap.
+    /// Moves a row to the end of `other`. Each pair is a column here and one of `other` that gets its value; columns in
+    /// no pair get zeros. The last row of this block fills the gap.
     pub fn move_row(&mut self, row: usize, other: &mut Block<A>, pairs: &[(usize, usize)])
         requires row { row < self.old.len }
         requires room { 0 < other.old.room }

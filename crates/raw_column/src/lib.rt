@@ -1,4 +1,4 @@
-//! The columns of a table: values of fixed sizes in raw memory, column behind column in one block. The type of a value
+//! The columns of a table: values of fixed sizes in raw memory, column after column in one block. The type of a value
 //! is its size alone.
 #![tactic(auto)]
 

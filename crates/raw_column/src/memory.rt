@@ -20,7 +20,7 @@ unsafe impl Send for Base {}
 
 unsafe impl Sync for Base {}
 
-/// The owner of a block that is being filled from its front: `items` are written, and the `spare` places after
+/// The owner of a block that is being filled from its beginning: `items` are written, and the `spare` places after
 /// them hold no value yet. It takes no space.
 pub(crate) struct Filling {
     ghost at: { Ptr },

@@ -1,4 +1,4 @@
-//! Columns in a run of bytes: one behind the other, each with a place for each of so many rows.
+//! Columns in a run of bytes: one after another, each with a place for each of so many rows.
 ghost use Rattle.std.specs.Prelude.{◌≡◌, ◌+◌, ◌*◌, ◌^◌, ◌<◌, ◌≤◌, ◌++◌, length, map, take, drop, replicate};
 ghost use Rattle.std.specs.Prelude.{slice_index};
 ghost use Rattle.std.specs.List.{sum};
@@ -75,8 +75,8 @@ fn clear_at(bytes: &mut [u8], at: usize, size: usize)
     clear(&mut bytes[at..at + size]);
 }
 
-/// Moves `size` bytes, also where the places overlap: in runs that don't, from the end to the front on the way up, and
-/// from the front on the way down.
+/// Moves `size` bytes, also where the places overlap: in runs that don't, from the end to the beginning on the way up,
+/// and from the beginning on the way down.
 fn shift(bytes: &mut [u8], to: usize, from: usize, size: usize)
     requires { (from + size ≤ length bytes.old) × (to + size ≤ length bytes.old) }
     ensures { bytes.new ≡ over to size bytes.old (take size (drop from bytes.old)) }

@@ -1,4 +1,4 @@
-//! An allocator for tests, which refuses growths: it shows what a call leaves behind when memory is wanted.
+//! An allocator for tests, which refuses growths: it shows what a call leaves when memory is refused.
 //!
 //! ```text
 //! for allowed in 0..32 {

@@ -30,8 +30,8 @@ pub fn reach_of<G: Graph>(graph: &G, relationship: u32) -> Reach
     }
 }
 
-/// Begins with the entity itself, where a reach is reflexive. Whether what the entity brings is to be added too: along
-/// what is transitive that is reached from the entity itself.
+/// Begins with the entity itself, where a reach is reflexive. Answers whether what the entity brings is to be added
+/// too: along what is transitive that is reached from the entity itself.
 pub fn begin_with<A: Allocator>(index: u32, reach: Reach, found: &mut Found<A>) -> bool
     requires inside { index < found.old.size }
     ensures size { found.new.size ≡ found.old.size }

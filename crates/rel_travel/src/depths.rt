@@ -1,4 +1,4 @@
-//! How deep an entity stands along a relationship, and what is noted of others on the way.
+//! The depth of an entity along a relationship, and what is noted of others on the way.
 ghost use Rattle.std.specs.Prelude.{◌≡◌, ◌≤◌, ◌<◌, ℕ, All, Contains, IfNone, IfSome, get_or, length, map, take};
 ghost use Rattle.std.specs.Prelude.{vec_capacity};
 ghost use Rattle.ecs_model.specs.Depth.{greatest};
@@ -55,7 +55,7 @@ fn greatest_word(ids: &[Id], relationship: u32, known: &[u32]) -> u32
     most
 }
 
-/// The depth of an entity, where a word for each may tell one more than its depth. What it finds it notes there, and it
+/// The depth of an entity, where a word for each may be one more than its depth. It notes there what it finds, and
 /// lists of whom.
 ///
 /// It goes through the ids of each entity of which nothing is known twice: once for a target of which nothing is known,
@@ -112,7 +112,7 @@ pub fn noted_depth<G: Graph, A: Allocator>(
     known[index as usize] - 1
 }
 
-/// The depth of an entity, over words that tell nothing before and after. There is room for a word for each entity.
+/// The depth of an entity, over words that are 0 before and after. There is room for a word for each entity.
 ///
 /// Words are made where there are fewer. What is noted is taken back in time of what was found.
 pub fn own_depth<G: Graph, A: Allocator>(
@@ -155,7 +155,7 @@ fn make_words<A: Allocator>(words: &mut Vec<u32, A>, size: usize)
     }
 }
 
-/// Takes the words of those back of whom something was noted.
+/// Sets the words back to 0 of those of whom something was noted.
 fn forget(noted: &[u32], words: &mut [u32])
     requires within { (i : ℕ) → Contains noted.now i → i < length words.old }
     requires noted { IsNotedOf noted.now words.old }

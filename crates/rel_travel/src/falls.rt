@@ -56,7 +56,7 @@ impl<G: Holders> Rule for Falling<'_, G> {
 }
 
 /// Adds the sources of pairs with this target whose relationship deletes them. Most entities are no target, which one
-/// look tells.
+/// look-up shows.
 fn add_sources<G: Holders, A: Allocator>(graph: &G, target: u32, found: &mut Found<A>)
     requires { All (λ y. y < found.old.size) (sources_falling (G.entities graph.now) (G.ids graph.now) target) }
     ensures size { found.new.size ≡ found.old.size }

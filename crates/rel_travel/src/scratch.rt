@@ -252,7 +252,7 @@ pub fn below<G: Holders, A: Allocator>(
 
 /// Gives the next entity of the list that was begun last, each once, or None where all are given.
 ///
-/// What a list gives, and in which order, is told by the graph and by what was begun alone.
+/// What a list gives, and in which order, depends only on the graph and on what was begun.
 ///
 /// It goes through the ids, or the sources, of the entity that it gives.
 pub fn pull<G: Holders, A: Allocator>(graph: &G, scratch: &mut Scratch<A>) -> Option<u32>
@@ -400,7 +400,7 @@ pub fn depth<G: Graph, A: Allocator>(
     )
 }
 
-/// The same, where a word for each entity may tell one more than its depth; 0 tells nothing. What is found is noted
+/// The same, where a word for each entity may be one more than its depth; 0 says nothing. What is found is noted
 /// there, for the entity and for its ancestors. So calls that share their words look at each ancestor once.
 ///
 /// It goes through the ids of each of them of which nothing is known, twice.

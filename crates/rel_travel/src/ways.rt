@@ -125,7 +125,7 @@ impl<A: Allocator> Ways<A> {
 ///
 /// It goes on from where the search from this source ended, or from where one ended without this target. Where sources
 /// lead there it takes as many steps from the target: so a source or a target that stays is searched from once. Where
-/// there is no room for ways it searches anew.
+/// there is no room for ways it searches each time.
 pub fn known_reaches<G: Holders, A: Allocator, B: Allocator>(
     graph: &G,
     relationship: u32,
@@ -245,7 +245,7 @@ fn go_on_below<G: Holders, A: Allocator>(
     }
 }
 
-/// How many of so many steps are left behind those that it takes to find the sources of an entity, or None where they
+/// How many of so many steps are left after those that it takes to find the sources of an entity, or None where they
 /// are too few.
 fn left_behind<G: Holders>(
     graph: &G,

@@ -70,7 +70,7 @@ impl<A: Allocator> ShortList<A> {
         self.as_slice().len()
     }
 
-    /// Puts one behind the others. Memory can be refused only where they are more than a few.
+    /// Appends one. Memory can be refused only where they are more than a few.
     #[inline(always)]
     pub fn push(&mut self, alloc: A, item: u32) -> Result<(), AllocError>
         ensures { OnOk result (self.new.items ≡ self.old.items ++ item ∷ []) }
@@ -89,7 +89,7 @@ impl<A: Allocator> ShortList<A> {
         self.spill(alloc, item)
     }
 
-    /// Puts one behind the others, which all move out of the value.
+    /// Appends one to the others, which all move out of the value.
     #[inline(never)]
     fn spill(&mut self, alloc: A, item: u32) -> Result<(), AllocError>
         ensures { OnOk result (self.new.items ≡ self.old.items ++ item ∷ []) }

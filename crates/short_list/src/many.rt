@@ -5,7 +5,7 @@ ghost use Rattle.short_list.specs.Items.{IsInOrder};
 
 use std::alloc::{AllocError, Allocator};
 
-/// These items and one behind them.
+/// These items and one after them.
 pub(crate) fn with_one_more<T: Copy, A: Allocator>(
     alloc: A,
     items: &[T],

@@ -51,7 +51,7 @@ impl<A: Allocator> ShortNumbers<A> {
         }
     }
 
-    /// Puts one behind the others. Memory can be refused only where they are more than a few.
+    /// Appends one. Memory can be refused only where they are more than a few.
     #[inline(always)]
     pub fn push(&mut self, alloc: A, item: u64) -> Result<(), AllocError>
         ensures { OnOk result (self.new.items ≡ self.old.items ++ item ∷ []) }
@@ -70,7 +70,7 @@ impl<A: Allocator> ShortNumbers<A> {
         self.spill(alloc, item)
     }
 
-    /// Puts one behind the others, which all move out of the value.
+    /// Appends one to the others, which all move out of the value.
     #[inline(never)]
     fn spill(&mut self, alloc: A, item: u64) -> Result<(), AllocError>
         ensures { OnOk result (self.new.items ≡ self.old.items ++ item ∷ []) }

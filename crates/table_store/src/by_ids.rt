@@ -11,12 +11,12 @@ use secret_hashing::Hashing;
 use std::alloc::{AllocError, Allocator};
 use std::hash::{BuildHasher, BuildHasherDefault, FoldHasher};
 
-// Its keys are hashes by secret numbers, so nobody chooses which of them fall together.
+// Its keys are hashes by secret numbers, so nobody can choose which of them fall together.
 type ByHash<A> = IndexMap<u64, u32, BuildHasherDefault<FoldHasher>, A>;
 
 /// The slots of tables by the hash of their ids.
 ///
-/// No ids stand here: who finds a slot looks whether its table has them.
+/// No ids stand here: who finds a slot checks whether its table has them.
 #[derive(Drop)]
 pub struct ByIds<A: Allocator> {
     // by a hash the slot of the last table that came whose ids have it

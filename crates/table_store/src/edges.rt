@@ -144,7 +144,7 @@ fn place_in(edges: &[Edge], id: Id) -> Option<usize>
     edges.iter().position(|edge| edge.0 == id)
 }
 
-// Writes an edge in the place of that for the id, or behind the others, if there is memory for it.
+// Writes an edge in the place of that for the id, or after the others, if there is memory for it.
 fn put<A: Allocator>(few: &mut Vec<Edge, A>, id: Id, to: ListedKey)
     ensures { IsEdgePut id to (edge_in few.old.items) (edge_in few.new.items) }
 {

@@ -45,9 +45,9 @@ pub(crate) struct TableSlot<A: Allocator> {
     // of 64 bits, as no key with a greater serial is given
     pub(crate) serial: u64,
     pub(crate) table: Table<A>,
-    // for an id, the table that has it more
+    // for an id, the table with it added
     more: Edges<A>,
-    // for an id, the table that has it less
+    // for an id, the table with it taken away
     less: Edges<A>,
 }
 
@@ -298,7 +298,7 @@ impl<A: Allocator + Copy> TableStore<A> {
         self.tables[key.slot as usize].table.reserve(additional)
     }
 
-    /// Keeps room for `room` more rows at most in a table, and gives back memory that rows left behind, as
+    /// Keeps room for `room` more rows at most in a table, and gives back memory that rows have left, as
     /// `Table::shrink_to` does.
     pub fn shrink_to(&mut self, key: TableKey, room: usize)
         requires stands { IsSome (table_at self.old key) }
@@ -381,7 +381,7 @@ fn prepare<A: Allocator + Copy>(
     Ok(slot)
 }
 
-// Makes sure that a slot has a mark. Slots that had none are told to have no rows.
+// Makes sure that a slot has a mark. Slots that had none are marked as without rows.
 fn reach<A: Allocator>(filled: &mut Vec<bool, A>, slot: u32) -> Result<(), AllocError>
     ensures within { OnOk result (slot < length filled.new.items) }
     ensures longer { length filled.old.items ≤ length filled.new.items }
@@ -564,7 +564,7 @@ impl<A: Allocator> TableStore<A> {
         }
     }
 
-    /// The table under a key, if it has rows. Of most that have none this is told without a look at the table.
+    /// The table under a key, if it has rows. Of most that have none this is known without a look at the table.
     pub fn filled(&self, key: TableKey) -> Option<&Table<A>>
         ensures table { MatchOption result (rows_in self.now key ≡ 0) (λ t. table_at self.now key ≡ Some t.now) }
         ensures filled { IfSome result (λ t. 0 < length (t.now).entities) }
@@ -716,7 +716,7 @@ impl<A: Allocator> TableStore<A> {
         self.by_serial.as_slice()
     }
 
-    /// Takes a table without rows away, and its key for good. Of a key that is gone it does nothing.
+    /// Releases a table without rows, and its key for good. Of a key that is gone it does nothing.
     pub fn release(&mut self, key: TableKey)
         requires empty { rows_in self.old key ≡ 0 }
         ensures tables { (q : TableKey) → table_at self.new q ≡ released_at self.old key q }
