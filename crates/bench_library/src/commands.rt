@@ -1,4 +1,4 @@
-//! Carries out many commands on a world, and tells two numbers that they have led to.
+//! Carries out many commands on a world, and prints two numbers that they have led to.
 
 use crate::{relations, values};
 use ecs_id::{EntityId, Id};

@@ -37,7 +37,7 @@ const NAMES: [&str; 8] = [
     "plain_written",
 ];
 
-/// Makes entities with two values, in the twenty tables of so many sets of five tags. It tells the id of the first
+/// Makes entities with two values, in the twenty tables of so many sets of five tags. It answers the id of the first
 /// value.
 fn fill(alloc: Global, world: &mut World, count: u32) -> Result<Id, Fault> {
     let plane = [("x", Kind::I32), ("y", Kind::I32)];
@@ -296,7 +296,7 @@ fn sum(
     }
 }
 
-/// Goes over the entities of one workload, or of all, so often, and tells the sum of each.
+/// Goes over the entities of one workload, or of all, so often, and prints the sum of each.
 pub(crate) fn tell(
     rt: &HostRuntime,
     chosen: &Option<String>,

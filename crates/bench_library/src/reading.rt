@@ -1,4 +1,4 @@
-//! Reads texts of queries, from their bytes to the checked query or the fault, and tells what came of each; or plans
+//! Reads texts of queries, from their bytes to the checked query or the fault, and prints what came of each; or plans
 //! them.
 
 ghost use Rattle.std.specs.Prelude.{IfOk};
@@ -111,7 +111,7 @@ fn plan_once(alloc: Global, query: &Query, plan: &Plan, tables: &[usize; 64], ph
     }
 }
 
-/// Does that so often, and tells how many steps the plan has.
+/// Does that so often, and answers how many steps the plan has.
 fn plan_query_often(
     alloc: Global,
     query: &Query,

@@ -78,7 +78,7 @@ pub fn tree(world: &mut World, count: u32) -> Result<(i128, u64), Fault> {
     Ok(parents(world))
 }
 
-/// Deletes the root of a tree, and tells how many entities died and how many facts went.
+/// Deletes the root of a tree, and answers how many entities died and how many facts went.
 pub fn felled(world: &mut World, count: u32) -> Result<(i128, u64), Fault> {
     grow(world, count)?;
     let root = entity(world, 0)?;

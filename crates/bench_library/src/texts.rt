@@ -14,7 +14,7 @@ fn add_name(text: &mut String, first: &str, letters: u32) -> Result<(), AllocErr
     Ok(())
 }
 
-/// A variable: `$` and a word, with a letter that tells it from others.
+/// A variable: `$` and a word, with a letter that differs from that of others.
 fn add_variable(text: &mut String, word: &str, letter: char) -> Result<(), AllocError> {
     text.push('$')?;
     text.push_str(word)?;

@@ -114,7 +114,7 @@ fn sum_of(world: &World, index: u32, id: Id) -> i128 {
     sum
 }
 
-/// Makes them and moves them, and tells the sum of all values that are read back, and how many ids all hold.
+/// Makes them and moves them, and answers the sum of all values that are read back, and how many ids all hold.
 pub fn run(alloc: Global, world: &mut World, count: u32) -> Result<(i128, u64), Fault> {
     let bench = Bench::new(alloc, world, count)?;
     for number in 0..count {

@@ -8,7 +8,7 @@ use query_check::Query;
 use query_chunks::{Chunk, Chunks, has_chunks};
 use std::alloc::{AllocError, Global};
 
-/// The bytes that tables get for one id, one table's behind those of another. The room stays from one turn to the next.
+/// The bytes that tables get for one id, one table's after those of another. The room stays from one turn to the next.
 #[derive(Drop)]
 pub(crate) struct TableBytes {
     /// Each table, and how many bytes it gets.

@@ -1,5 +1,6 @@
-//! A harbour, as a game on a session: a monitor tells which ships put to sea, a kept query is asked each turn, and the
-//! rows of another query are pulled one at a time, with their values, or gone over table by table, frame after frame.
+//! A harbour, as a game on a session: a monitor notifies of ships that put to sea, a kept query is asked each turn, and
+//! the rows of another query are pulled one at a time, with their values, or gone over table by table, frame after
+//! frame.
 //!
 //! It has no proof of its own: what its contracts say follows from those of the calls.
 #![tactic(auto)]
@@ -67,7 +68,7 @@ fn write_events(told: &[Event], out: &mut Vec<u8>) -> Result<(), AllocError> {
     Ok(())
 }
 
-/// Prints what the monitor has to tell of the last command.
+/// Prints the monitor's events of the last command.
 fn tell_events(session: &mut Session, out: &mut Vec<u8>) -> Result<(), AllocError> {
     let told = session.events()?;
     let written = write_events(told.as_slice(), out);

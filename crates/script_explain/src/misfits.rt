@@ -89,7 +89,7 @@ fn broken_at(line: &[u8]) -> Option<usize>
 /// What was found in a line, or a part that doesn't fit.
 type OrMisfit<T> = Result<T, (Part, Reason)>;
 
-/// Reads what stands behind a command.
+/// Reads what stands after a command.
 fn rest_fault(command: Command, line: &[u8], from: usize) -> OrMisfit<()>
     requires { from ≤ length line.now }
     ensures { IfErr result (λ e. IsWithin line.now e.0) }
@@ -191,7 +191,7 @@ fn reference_fault(word: &[u8]) -> Option<Reason> {
     }
 }
 
-/// Whether a text is that of a handle behind its `#`.
+/// Whether a text is that of a handle after its `#`.
 fn is_handle(text: &[u8]) -> bool {
     match place_of(text, b'.') {
         None => false,
@@ -222,7 +222,7 @@ fn id_from(line: &[u8], from: usize) -> OrMisfit<Part>
     pair_at(line, Part { end, ..word })
 }
 
-/// A pair in its brackets, behind which a blank or the end of the line has to stand.
+/// A pair in its brackets, after which a blank or the end of the line has to stand.
 fn pair_at(line: &[u8], part: Part) -> OrMisfit<Part>
     requires { IsWithin line.now part }
     ensures word { IfOk result (IsWithin line.now) }

@@ -33,7 +33,7 @@ pub(crate) fn word_from(line: &[u8], from: usize) -> Part
     Part { start, end }
 }
 
-/// Where the text of a query begins, behind so many words of its line.
+/// Where the text of a query begins, after so many words of its line.
 pub(crate) fn text_start(line: &[u8], words: usize) -> usize
     ensures within { result ≤ length line.now }
     ensures place { drop result line.now ≡ text_behind words line.now }

@@ -1,4 +1,4 @@
-//! The lines of an output that tell of refused lines.
+//! The lines of an output that report refused lines.
 
 /// What `error LINE KIND` or `error LINE KIND a..b` says, without its line feed.
 #[derive(Clone, Copy)]
@@ -11,7 +11,7 @@ pub(crate) struct Refusal<'a> {
     pub span: Option<(usize, usize)>,
 }
 
-/// Reads such a line. Any other line tells of none.
+/// Reads such a line. Any other line reports none.
 pub(crate) fn refusal_of(output: &[u8]) -> Option<Refusal<'_>> {
     let text = std::str::from_utf8(output).ok()?;
     let (number, rest) = text.strip_prefix("error ")?.split_once(' ')?;

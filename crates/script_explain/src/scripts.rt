@@ -68,7 +68,7 @@ impl<A: Allocator> Script<A> {
     }
 }
 
-/// The place behind so many line feeds from a place on, if there are so many.
+/// The place after so many line feeds from a place on, if there are so many.
 fn behind_lines(bytes: &[u8], from: usize, count: usize) -> Option<usize>
     requires { from ≤ length bytes.now }
     ensures { IfSome result (λ at. at ≤ length bytes.now) }

@@ -8,7 +8,7 @@ use script_streams::{Sink, Source, Stop, write_all};
 use std::alloc::{AllocError, Allocator, Global};
 use std::cell::RefCell;
 
-/// A line of output that is longer tells of no refusal.
+/// A line of output that is longer reports no refusal.
 const MOST_KEPT: usize = 100;
 
 /// A reader, and the script in which what it gives is kept.
@@ -42,8 +42,8 @@ impl<R: Source, A: Allocator> Source for Watched<'_, R, A> {
     }
 }
 
-/// A writer, and another one to which is explained what the lines `error LINE KIND` that it takes tell of the lines of
-/// a script.
+/// A writer, and another one, to which the lines `error LINE KIND` that the first takes are explained, with the refused
+/// lines of a script.
 #[derive(Drop)]
 pub struct Explaining<'a, W, E, A: Allocator = Global> {
     writer: W,
@@ -129,7 +129,7 @@ impl<E: Sink, A: Allocator> Explainer<'_, E, A> {
         }
     }
 
-    /// Explains what the output's line tells, if it tells of a refusal.
+    /// Explains the output's line, if it reports a refusal.
     fn explain(&mut self) -> Result<(), AllocError> {
         let Some(refusal) = refusal_of(self.line.as_slice()) else {
             return Ok(());

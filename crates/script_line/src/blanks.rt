@@ -11,7 +11,7 @@ pub(crate) fn is_blank(byte: u8) -> bool
     byte <= b' ' && (byte == b' ' || byte == b'\t' || byte == b'\r')
 }
 
-/// How many blanks stand at the front.
+/// How many blanks stand at the beginning.
 pub(crate) fn blanks_at_front(bytes: &[u8]) -> usize
     ensures value { result ≡ prefix_len is_blank bytes.now }
     ensures within { result ≤ length bytes.now }
@@ -44,7 +44,7 @@ fn word_len(bytes: &[u8]) -> usize
     bytes.iter().take_while(|b| !is_blank(**b)).count()
 }
 
-/// The text without the blanks at its front.
+/// The text without the blanks at its beginning.
 pub(crate) fn trim_front(text: &str) -> &str
     ensures { result.now ≡ trim_front text.now }
 {
@@ -59,7 +59,7 @@ pub(crate) fn trimmed(text: &str) -> &str
     &text[..text.len() - blanks_at_end(text.as_bytes())]
 }
 
-/// The first word, which is empty where there is none, and what stands behind it.
+/// The first word, which is empty where there is none, and what stands after it.
 pub(crate) fn word_and_rest(text: &str) -> (&str, &str)
     ensures word { result.0.now ≡ (word_and_rest text.now).0 }
     ensures rest { result.1.now ≡ (word_and_rest text.now).1 }
@@ -82,7 +82,7 @@ pub(crate) fn word_start(text: &str) -> Option<&str>
     Some(text)
 }
 
-/// The first word and what stands behind it, if there is a word.
+/// The first word and what stands after it, if there is a word.
 pub(crate) fn next_word(text: &str) -> Option<(&str, &str)>
     ensures cases { MatchOption result (words text.now ≡ []) (λ p. words text.now ≡ p.0.now ∷ words p.1.now) }
     ensures shorter { IfSome result (λ p. length p.1.now < length text.now) }

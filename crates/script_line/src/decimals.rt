@@ -44,7 +44,7 @@ fn all_digits(bytes: &[u8]) -> bool
     bytes.iter().all(|b| is_digit(*b))
 }
 
-/// How many digits stand at the front.
+/// How many digits stand at the beginning.
 pub(crate) fn digits_len(bytes: &[u8]) -> usize
     ensures { result ≡ prefix_len is_digit bytes.now }
 {

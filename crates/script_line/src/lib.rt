@@ -66,7 +66,7 @@ pub enum Line<'a, A: Allocator = Global> {
     Delete {
         entity: Reference<'a>,
     },
-    /// `show E`: the facts of an entity are told.
+    /// `show E`: the facts of an entity are printed.
     Show {
         entity: Reference<'a>,
     },
@@ -91,7 +91,7 @@ pub enum Line<'a, A: Allocator = Global> {
     },
 }
 
-/// A line whose first word was read: of the forms that most lines have, what stands behind it.
+/// A line whose first word was read: of the forms that most lines have, what stands after it.
 #[derive(Clone, Copy, Debug)]
 pub enum Opening<'a> {
     /// The line is blank or a comment.
@@ -112,7 +112,7 @@ pub enum Opening<'a> {
     Rows { rest: &'a str },
     /// `delete ..`
     Delete { rest: &'a str },
-    /// `new`, and nothing behind it.
+    /// `new`, and nothing after it.
     New,
     /// Any other line, from its start.
     Other { text: &'a str },

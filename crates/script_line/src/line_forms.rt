@@ -54,8 +54,8 @@ fn opened_by_word(text: &str) -> Opening<'_>
     }
 }
 
-/// Reads the first word of a line where that stands at its front, before a space, and is one that most lines begin
-/// with; and the line `new`.
+/// Reads the first word of a line that begins with it, before a space, if it is one that most lines begin with; and the
+/// line `new`.
 // A few bytes are compared at once then, and none is looked at twice.
 #[inline(always)]
 #[tactic(auto, unfolding(ecs_model::specs::Script::forms))]
@@ -100,7 +100,7 @@ fn longer_opened_at_once(text: &str) -> Option<Opening<'_>>
     }
 }
 
-/// The text behind so many bytes, where a space comes next.
+/// The text after so many bytes, where a space comes next.
 #[inline(always)]
 fn behind(text: &str, count: usize) -> &str
     requires within { count < length text.now }
@@ -160,7 +160,7 @@ fn rarer_line<'a, A: Allocator>(word: &str, rest: &'a str) -> Line<'a, A>
     }
 }
 
-/// Reads what stands behind `new`: nothing.
+/// Reads what stands after `new`: nothing.
 fn new_line<'a, A: Allocator>(rest: &'a str) -> Line<'a, A>
     ensures { (values : List ℤ) → seen values result ≡ nothing_more (CarryOut (InWorld MakeFresh)) (words rest.now) }
 {
@@ -170,7 +170,7 @@ fn new_line<'a, A: Allocator>(rest: &'a str) -> Line<'a, A>
     }
 }
 
-/// Reads what stands behind `entity`: one word.
+/// Reads what stands after `entity`: one word.
 pub(crate) fn entity_line<'a, A: Allocator>(rest: &'a str) -> Line<'a, A>
     ensures { (values : List ℤ) → seen values result ≡ one_word (λ n. CarryOut (InWorld (MakeEntity n)))
         (words rest.now) }
@@ -181,7 +181,7 @@ pub(crate) fn entity_line<'a, A: Allocator>(rest: &'a str) -> Line<'a, A>
     }
 }
 
-/// Reads what stands behind `delete`: an entity.
+/// Reads what stands after `delete`: an entity.
 pub(crate) fn delete_line<'a, A: Allocator>(rest: &'a str) -> Line<'a, A>
     ensures { (values : List ℤ) → seen values result ≡ entity_line (λ r. CarryOut (InWorld (DeleteOne r))) rest.now }
 {
@@ -191,7 +191,7 @@ pub(crate) fn delete_line<'a, A: Allocator>(rest: &'a str) -> Line<'a, A>
     }
 }
 
-/// Reads what stands behind `show`: an entity.
+/// Reads what stands after `show`: an entity.
 fn show_line<'a, A: Allocator>(rest: &'a str) -> Line<'a, A>
     ensures { (values : List ℤ) → seen values result ≡ entity_line Show rest.now }
 {
@@ -201,7 +201,7 @@ fn show_line<'a, A: Allocator>(rest: &'a str) -> Line<'a, A>
     }
 }
 
-/// Reads what stands behind `rows`: one word.
+/// Reads what stands after `rows`: one word.
 pub(crate) fn rows_line<'a, A: Allocator>(rest: &'a str) -> Line<'a, A>
     ensures { (values : List ℤ) → seen values result ≡ one_word AskKept (words rest.now) }
 {
@@ -211,7 +211,7 @@ pub(crate) fn rows_line<'a, A: Allocator>(rest: &'a str) -> Line<'a, A>
     }
 }
 
-/// Reads what stands behind `drop`: one word.
+/// Reads what stands after `drop`: one word.
 fn drop_line<'a, A: Allocator>(rest: &'a str) -> Line<'a, A>
     ensures { (values : List ℤ) → seen values result ≡ one_word (λ n. CarryOut (Drop n)) (words rest.now) }
 {
@@ -221,7 +221,7 @@ fn drop_line<'a, A: Allocator>(rest: &'a str) -> Line<'a, A>
     }
 }
 
-/// Reads what stands behind `on`: an event, and what is stored for it.
+/// Reads what stands after `on`: an event, and what is stored for it.
 fn on_line<'a, A: Allocator>(rest: &'a str) -> Line<'a, A>
     ensures { (values : List ℤ) → seen values result ≡ on_line rest.now }
 {
@@ -232,7 +232,7 @@ fn on_line<'a, A: Allocator>(rest: &'a str) -> Line<'a, A>
     }
 }
 
-/// Reads what stands behind `keep`, `monitor` or an event: a word, and a text, which may be empty.
+/// Reads what stands after `keep`, `monitor` or an event: a word, and a text, which may be empty.
 fn store_line<'a, A: Allocator>(kind: StoredKind, rest: &'a str) -> Line<'a, A>
     ensures { (values : List ℤ) → seen values result ≡ store_line kind rest.now }
 {
@@ -269,7 +269,7 @@ pub fn only_entity(text: &str) -> Option<Reference<'_>>
     }
 }
 
-/// Reads what stands behind `component`: a name and fields.
+/// Reads what stands after `component`: a name and fields.
 fn component_line<'a, A: Allocator + Copy>(
     alloc: A,
     rest: &'a str,
@@ -302,7 +302,7 @@ fn fields_of<'a, A: Allocator>(alloc: A, text: &'a str) -> Result<Option<Fields<
     Ok(Some(fields))
 }
 
-/// Reads an entity and an id, and what stands behind them.
+/// Reads an entity and an id, and what stands after them.
 // A call would write the answer to memory, and its caller clear that before.
 #[inline(always)]
 fn fact_and_rest(text: &str) -> Option<(Fact<'_>, &str)>
@@ -314,7 +314,7 @@ fn fact_and_rest(text: &str) -> Option<(Fact<'_>, &str)>
     Some((Fact { entity, id }, rest))
 }
 
-/// Reads what stands behind `add` or `remove`: an entity and an id.
+/// Reads what stands after `add` or `remove`: an entity and an id.
 #[inline(always)]
 fn bare_fact(text: &str) -> Option<Fact<'_>>
     ensures { (f : EntityRef → IdRef → Form) → fact_line (λ r i. nothing_more (f r i)) text.now
@@ -327,7 +327,7 @@ fn bare_fact(text: &str) -> Option<Fact<'_>>
     }
 }
 
-/// Reads what stands behind `set`: an entity, an id and one or more values, which come into `values` in place of what
+/// Reads what stands after `set`: an entity, an id and one or more values, which come into `values` in place of what
 /// stood there.
 #[inline(always)]
 fn valued_fact<'a, A: Allocator>(
@@ -348,8 +348,8 @@ fn valued_fact<'a, A: Allocator>(
     }
 }
 
-/// Reads what stands behind the word of a deed: an entity and an id, and behind `set` one or more values, which come
-/// into `values` in place of what stood there.
+/// Reads what stands after the word of a deed: an entity and an id, and after `set` one or more values, which come into
+/// `values` in place of what stood there.
 // One function for the three deeds, so that the code that reads an entity and an id stands once where it is inlined.
 #[inline(always)]
 pub fn fact_behind<'a, A: Allocator>(
@@ -366,7 +366,7 @@ pub fn fact_behind<'a, A: Allocator>(
     if fits { Ok(Some(fact)) } else { Ok(None) }
 }
 
-/// Reads what stands behind an entity and an id, and answers whether it fits the deed.
+/// Reads what stands after an entity and an id, and answers whether it fits the deed.
 #[inline(always)]
 fn fits_behind<A: Allocator>(
     deed: Deed,
@@ -386,7 +386,7 @@ fn fits_behind<A: Allocator>(
     }
 }
 
-/// Reads what stands behind `add`: an entity and an id.
+/// Reads what stands after `add`: an entity and an id.
 pub(crate) fn add_line<'a, A: Allocator>(rest: &'a str) -> Line<'a, A>
     ensures { (values : List ℤ) → seen values result ≡ fact_line
         (λ r i. nothing_more (CarryOut (InWorld (AddTo r i)))) rest.now }
@@ -400,7 +400,7 @@ pub(crate) fn add_line<'a, A: Allocator>(rest: &'a str) -> Line<'a, A>
     }
 }
 
-/// Reads what stands behind `remove`: an entity and an id.
+/// Reads what stands after `remove`: an entity and an id.
 pub(crate) fn remove_line<'a, A: Allocator>(rest: &'a str) -> Line<'a, A>
     ensures { (values : List ℤ) → seen values result ≡ fact_line
         (λ r i. nothing_more (CarryOut (InWorld (RemoveFrom r i)))) rest.now }
@@ -414,7 +414,7 @@ pub(crate) fn remove_line<'a, A: Allocator>(rest: &'a str) -> Line<'a, A>
     }
 }
 
-/// Reads what stands behind `set`.
+/// Reads what stands after `set`.
 pub(crate) fn set_line<'a, A: Allocator>(
     rest: &'a str,
     values: &mut Vec<i128, A>,

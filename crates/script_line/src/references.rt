@@ -29,7 +29,7 @@ pub(crate) fn reference_of(word: &str) -> Option<Reference<'_>>
     whole_reference(word)
 }
 
-/// Reads the first word of a text that begins with it as a reference, and what stands behind it.
+/// Reads the first word of a text that begins with it as a reference, and what stands after it.
 // The text is gone over once: the first byte that ends a reference has to end the word too.
 #[inline(always)]
 pub(crate) fn reference_and_rest(text: &str) -> Option<(Reference<'_>, &str)>
@@ -78,7 +78,7 @@ fn ends_reference(byte: u8) -> bool
     byte <= b',' && (is_blank(byte) || byte == b'(' || byte == b')' || byte == b',')
 }
 
-/// Reads a handle behind its `#`: an index of 1 to 9 digits, one `.`, and a generation of 1 to 5 digits, at most
+/// Reads a handle after its `#`: an index of 1 to 9 digits, one `.`, and a generation of 1 to 5 digits, at most
 /// 65,535.
 #[cold]
 #[inline(never)]
@@ -97,7 +97,7 @@ fn handle_of(text: &str) -> Option<EntityId>
     })
 }
 
-/// Reads an id at the front of a text, and what stands behind it.
+/// Reads an id at the beginning of a text, and what stands after it.
 #[inline(always)]
 pub(crate) fn id_and_rest(text: &str) -> Option<(IdReference<'_>, &str)>
     ensures { option_map seen_id_and_rest result ≡ id_and_rest (trim_front text.now) }
@@ -109,7 +109,7 @@ pub(crate) fn id_and_rest(text: &str) -> Option<(IdReference<'_>, &str)>
     }
 }
 
-/// Reads a pair behind its `(`, and what stands behind its `)`: nothing, or a blank first.
+/// Reads a pair after its `(`, and what stands after its `)`: nothing, or a blank first.
 // Most pairs have no blanks.
 #[inline(always)]
 fn pair_and_rest(text: &str) -> Option<(IdReference<'_>, &str)>
@@ -121,7 +121,7 @@ fn pair_and_rest(text: &str) -> Option<(IdReference<'_>, &str)>
     }
 }
 
-/// Reads a pair without blanks behind its `(`, and what stands behind its `)`. None where there is no such pair: it may
+/// Reads a pair without blanks after its `(`, and what stands after its `)`. None where there is no such pair: it may
 /// be one with blanks.
 // The text is gone over once.
 #[inline(always)]
@@ -146,7 +146,7 @@ fn close_pair_and_rest(text: &str) -> Option<(IdReference<'_>, &str)>
     ))
 }
 
-/// Reads a pair behind its `(`, and what stands behind its `)`, whether there are blanks in it or not.
+/// Reads a pair after its `(`, and what stands after its `)`, whether there are blanks in it or not.
 #[cold]
 #[inline(never)]
 fn any_pair_and_rest(text: &str) -> Option<(IdReference<'_>, &str)>
@@ -170,7 +170,7 @@ fn pair_in(text: &str) -> Option<IdReference<'_>>
     })
 }
 
-/// Reads the first word of a text that begins with it as an id, and what stands behind it.
+/// Reads the first word of a text that begins with it as an id, and what stands after it.
 #[inline(always)]
 fn plain_and_rest(text: &str) -> Option<(IdReference<'_>, &str)>
     ensures { option_map seen_id_and_rest result ≡ option_map (λ r. (plain_of r.0, r.1))

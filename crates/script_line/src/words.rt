@@ -14,7 +14,7 @@ use ecs_model::watches::StoredKind;
 const MAX_DIGITS: usize = 38;
 
 /// Reads the first word of a text that begins with it as a value, an optional `-` and 1 to 38 digits, and what stands
-/// behind it.
+/// after it.
 #[inline(always)]
 pub(crate) fn value_and_rest(text: &str) -> Option<(i128, &str)>
     ensures value { option_map seen_value_and_rest result ≡ word_read value_of_word text.now }
@@ -29,7 +29,7 @@ pub(crate) fn value_and_rest(text: &str) -> Option<(i128, &str)>
     }
 }
 
-/// Reads the first word of a text that begins with it as 1 to 38 digits, and what stands behind it.
+/// Reads the first word of a text that begins with it as 1 to 38 digits, and what stands after it.
 // The text is gone over once for both: the first byte that is no digit has to end the word.
 #[inline(always)]
 fn unsigned_and_rest(text: &str) -> Option<(i128, &str)>

@@ -40,7 +40,7 @@ pub struct Lines<A: Allocator = Global> {
     /// Of the piece, these are still to be taken.
     begin: usize,
     end: usize,
-    /// The front of a line whose end hasn't come, as far as it is kept.
+    /// The beginning of a line whose end hasn't come, as far as it is kept.
     front: Vec<u8, A>,
     /// Of the piece, these are the line that was taken last, unless it came in more than one piece.
     line_begin: usize,
@@ -89,7 +89,7 @@ impl<A: Allocator + Copy> Lines<A> {
 
 impl<A: Allocator> Lines<A> {
     /// Takes the next line whose end has come, and answers whether there is one. Where there is none, what has come is
-    /// the front of one.
+    /// the beginning of one.
     ///
     /// Of a line that came in more than one piece the first 4,097 bytes are kept.
     #[tactic(auto, using(crate::proofs::KeptLines::kept_twice))]
@@ -125,7 +125,7 @@ impl<A: Allocator> Lines<A> {
         }
     }
 
-    /// The front of the line whose end hasn't come: behind the last byte, the last line, if it isn't empty.
+    /// The beginning of the line whose end hasn't come: after the last byte, the last line, if it isn't empty.
     pub fn front(&self) -> &[u8]
         ensures { result.now ≡ self.now.front }
     {
@@ -167,7 +167,7 @@ impl<A: Allocator> Lines<A> {
     }
 }
 
-/// Reads into the front of a piece that has so much room.
+/// Reads into the beginning of a piece that has so much room.
 #[tactic(auto, using(crate::proofs::Ends::consumes_part, crate::proofs::Ends::consumes_front))]
 fn read_front<R: Source>(reader: &mut R, piece: &mut [u8], room: usize) -> Result<usize, Fault>
     requires some { 0 < room }
@@ -216,7 +216,7 @@ fn find_end<R: Source>(reader: &mut R) -> Result<bool, FillError>
     }
 }
 
-/// Adds bytes to the front of a line, as far as it is kept.
+/// Adds bytes to the beginning of a line, as far as it is kept.
 #[tactic(auto, using(crate::proofs::KeptLines::kept_added))]
 fn keep_front<A: Allocator>(front: &mut Vec<u8, A>, bytes: &[u8]) -> Result<(), AllocError>
     requires { length front.old.items ≤ 4097 }

@@ -34,7 +34,7 @@ pub fn read_patiently<R: Source>(reader: &mut R, piece: &mut [u8]) -> Result<usi
     Err(Fault)
 }
 
-/// Writes the front of some bytes, and again after each of up to 64 interruptions in a row. Answers how many bytes
+/// Writes a prefix of some bytes, and again after each of up to 64 interruptions in a row. Answers how many bytes
 /// went: at least one.
 fn write_patiently<W: Sink>(writer: &mut W, bytes: &[u8]) -> Result<usize, Fault>
     requires { 0 < length bytes.now }
@@ -56,7 +56,7 @@ fn write_patiently<W: Sink>(writer: &mut W, bytes: &[u8]) -> Result<usize, Fault
     Err(Fault)
 }
 
-/// Writes all of the bytes, or a front of them up to the first fault.
+/// Writes all of the bytes, or a prefix of them up to the first fault.
 pub fn write_all<W: Sink>(writer: &mut W, bytes: &[u8]) -> Result<(), Fault>
     ensures ok { OnOk result (Appends (W.contents writer.old) (W.contents writer.new) bytes.now) }
     ensures front { OnErr result (TakesFront (W.contents writer.old) (W.contents writer.new) bytes.now) }

@@ -1,4 +1,4 @@
-//! Where bytes come from and where they go, and what is told of the calls so far.
+//! Where bytes come from and where they go, and what is known of the calls so far.
 ghost use Rattle.std.specs.Prelude.{◌≡◌, ℕ, false};
 ghost use Rattle.std.specs.Io.{ReadsAtMost, WritesAtMost};
 ghost use Rattle.std.specs.Io.KnownBytes.{ReadConsumes, WriteAppends};
@@ -16,7 +16,7 @@ pub enum Stop {
     Failed,
 }
 
-/// What is told of the calls of a reader or a writer so far.
+/// What is known of the calls of a reader or a writer so far.
 #[derive(Clone, Copy, Debug, PartialEq, Eq)]
 pub struct Calls {
     /// How many of the last calls in a row were interrupted. From 65 on they are counted no further.
@@ -77,16 +77,16 @@ pub trait Source {
     ghost use Rattle.script_streams.specs.declared.streams.Stop.{Stop};
     ghost use Rattle.script_streams.specs.Streams.{after_read};
 
-    // The bytes that reads will give from here on, where they are told.
+    // The bytes that reads will give from here on, where they are known.
     ghost remaining: { Self → Option (List ℕ) } = { λ _. None };
 
-    // What is told of the reads so far.
+    // What is known of the reads so far.
     ghost calls: { Self → Calls };
 
-    // What a read does, where more is told than by its bytes: before it, the buffer's length, its answer, and after it.
+    // What a read does, where more is known than its bytes: before it, the buffer's length, its answer, and after it.
     ghost reads: { Self → ℕ → Result ℕ Stop → Self → Type 0 } = { λ _ _ _ _. ⊤ };
 
-    /// Puts bytes at the buffer's front, and answers how many: none only at the end, or where there is no room.
+    /// Puts bytes at the buffer's beginning, and answers how many: none only at the end, or where there is no room.
     fn read(&mut self, buffer: &mut [u8]) -> Result<usize, Stop>
         ensures bound { ReadsAtMost result buffer.new }
         ensures bytes { ReadConsumes (remaining self.old) (remaining self.new) result buffer.new }
@@ -101,13 +101,13 @@ pub trait Sink {
     ghost use Rattle.script_streams.specs.declared.streams.Stop.{Stop};
     ghost use Rattle.script_streams.specs.Streams.{after_write};
 
-    // The bytes taken so far, where they are told.
+    // The bytes taken so far, where they are known.
     ghost contents: { Self → Option (List ℕ) } = { λ _. None };
 
-    // What is told of the writes so far.
+    // What is known of the writes so far.
     ghost calls: { Self → Calls };
 
-    // What a write does, where more is told than by its bytes: before it, how many bytes it is given, its answer, and
+    // What a write does, where more is known than its bytes: before it, how many bytes it is given, its answer, and
     // after it.
     ghost writes: { Self → ℕ → Result ℕ Stop → Self → Type 0 } = { λ _ _ _ _. ⊤ };
 

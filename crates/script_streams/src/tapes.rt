@@ -15,7 +15,7 @@ pub enum Turn {
     Stop(Stop),
 }
 
-/// Bytes that are read from their front and written at their end.
+/// Bytes that are read from their beginning and written at their end.
 ///
 /// Each call does what the next turn says. After the last turn a call passes as many bytes as it can.
 #[derive(Drop)]
@@ -66,7 +66,7 @@ impl<'a, A: Allocator> Tape<'a, A> {
     }
 }
 
-/// Takes the next turn. Behind the last all bytes pass.
+/// Takes the next turn. After the last all bytes pass.
 fn take_turn(turns: &mut &[Turn]) -> Turn
     ensures turn { result ≡ next_turn turns.old.now }
     ensures later { turns.new.now ≡ drop 1 turns.old.now }
@@ -80,7 +80,7 @@ fn take_turn(turns: &mut &[Turn]) -> Turn
     }
 }
 
-/// Copies at most so many of the bytes behind those given to the buffer's front, at least one where there is one and
+/// Copies to the buffer's beginning at most so many of the bytes after those given, at least one where there is one and
 /// room for it, and answers how many.
 fn give(bytes: &[u8], given: usize, most: usize, buffer: &mut [u8]) -> usize
     requires { given ≤ length bytes.now }

@@ -85,7 +85,7 @@ const WORLD: Base = Base {
     replaced: &[],
 };
 
-/// Leaves tables without rows behind, and one that is released with the id of its entity.
+/// Leaves tables without rows, and one that is released with the id of its entity.
 fn leave_tables(world: &mut World) -> Result<(), CommandError> {
     name_all(world, &["Gone"])?;
     add_all(world, &[(ROCK, MASS, None), (SUN, GONE, None)])?;

@@ -1,4 +1,4 @@
-//! A local query judges an entity by its ids, and tells who leaves and who enters.
+//! A local query judges an entity by its ids, and answers who leaves and who enters.
 
 use crate::ask;
 use ecs_id::Id;

@@ -1,4 +1,4 @@
-//! Reads query texts, a line each, and prints for each the fault that is told in a small world, or `ok`.
+//! Reads query texts, a line each, and prints for each the fault that it has in a small world, or `ok`.
 //!
 //! A number as argument says how often each text is read and checked, for whoever times it.
 #![tactic(auto)]

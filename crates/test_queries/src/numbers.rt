@@ -1,4 +1,4 @@
-//! Numbers that tell texts, so that rows are compared with what is printed in whatever order they come, and without
+//! Numbers of texts, so that rows are compared with what is printed in whatever order they come, and without
 //! memory.
 
 use ecs_id::Id;
@@ -7,10 +7,10 @@ use ecs_schema::Schema;
 use ecs_world::World;
 use std::process::Abort;
 
-/// How many rows there are, and a number that tells their texts.
+/// How many rows there are, and the number of their texts.
 pub(crate) type Sum = (usize, u64);
 
-/// A failure tells what was tried. To prove a message takes longer than most tests, so it stands here alone.
+/// A failure says what was tried. To prove a message takes longer than most tests, so it stands here alone.
 pub(crate) fn expect(rt: &impl Abort, holds: bool, tried: &str) {
     assert!(rt; holds, "{tried}");
 }
@@ -44,7 +44,7 @@ pub(crate) fn with_fact(number: u64, world: &World, id: Id, source: u32) -> u64 
     with_name(with(number, b"@"), world, source)
 }
 
-/// The same with a value, behind `=`.
+/// The same with a value, after `=`.
 pub(crate) fn with_value(number: u64, schema: &Schema, bytes: &[u8]) -> u64 {
     if bytes.len() != schema.size() {
         return number;
@@ -54,7 +54,7 @@ pub(crate) fn with_value(number: u64, schema: &Schema, bytes: &[u8]) -> u64 {
     with(number, &text[start..])
 }
 
-/// How many rows are printed, and a number that tells them.
+/// How many rows are printed, and the number of their texts.
 pub(crate) fn sum_of(printed: &str) -> Sum {
     let mut sum = (0usize, 0u64);
     for line in printed.lines() {

@@ -1,8 +1,8 @@
 //! Worked rows: a world, a query, and what it prints. Runs and all orders of a plan are tried with each.
 //!
 //! They are those of `tests/rows` on values, diamonds, parents, variables, groups, alternatives, instances, many terms
-//! and indexes that come again, and one more with sibling groups that find somebody. Of the components there those that
-//! show values are components here too, and tags stand in place of the others.
+//! and indexes that come again, and one more with sibling groups that find an entity. Of the components there those
+//! that show values are components here too, and tags stand in place of the others.
 
 use crate::chunks::compare;
 use crate::orders::try_orders;

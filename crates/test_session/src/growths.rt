@@ -18,7 +18,7 @@ const ROOM: usize = 4096;
 /// No line has as many growths.
 const MOST_GROWTHS: u64 = 2000;
 
-/// The lines of a script, what they print, and how often whole rows are taken for its monitors.
+/// The lines of a script, what they print, and how often its monitors are evaluated.
 #[derive(Clone, Copy)]
 struct Lines<'a> {
     base: &'a [Line],
@@ -42,7 +42,7 @@ fn expect_bytes(rt: &impl Abort, written: &[u8], expected: &[u8]) {
     assert_eq!(rt; written, expected);
 }
 
-/// A number that tells the live entities, and the ids of each.
+/// A number that the live entities make, with the ids of each.
 fn facts_number<A: Allocator>(world: &World<A>) -> u64 {
     let mut number = 1u64;
     for entity in world.live() {
@@ -54,8 +54,8 @@ fn facts_number<A: Allocator>(world: &World<A>) -> u64 {
     number
 }
 
-/// How much room there is beforehand for what a line writes. Where events have been told, no memory may be wanting to
-/// write them.
+/// How much room there is beforehand for what a line writes. Where events have been delivered, no memory may be wanting
+/// to write them.
 fn room_for(line: Line) -> usize {
     match line {
         Line::Events => ROOM,
@@ -63,7 +63,7 @@ fn room_for(line: Line) -> usize {
     }
 }
 
-/// Carries out a line with so many blocks and no more, writes what it prints, and tells whether it was refused for
+/// Carries out a line with so many blocks and no more, writes what it prints, and answers whether it was refused for
 /// that. Then the facts are as before, and it is carried out again.
 fn is_line_refused<'a>(
     rt: &impl Abort,
@@ -91,7 +91,7 @@ fn is_line_refused<'a>(
     Ok(refused)
 }
 
-/// Writes what a script prints in which memory is refused at a line, and tells whether the line was refused.
+/// Writes what a script prints in which memory is refused at a line, and answers whether the line was refused.
 fn print_refusing<'a>(
     rt: &impl Abort,
     heap: &'a Refusing<Global>,
@@ -107,7 +107,7 @@ fn print_refusing<'a>(
 }
 
 /// Whether a line is refused with so few blocks, in a new session. The script prints what it prints where nothing is
-/// refused, and whole rows are taken as often. Where the line makes a session, the new one may be refused.
+/// refused, and monitors are evaluated as often. Where the line makes a session, the new one may be refused.
 fn is_refused(
     rt: &impl Abort,
     heap: &Refusing<Global>,
@@ -177,7 +177,7 @@ fn refuse_lines(
     Ok(())
 }
 
-/// Writes what lines print in a new session, and tells how often whole rows were taken.
+/// Writes what lines print in a new session, and answers how often monitors were evaluated.
 fn print_script(
     alloc: Global,
     random: RandomState,
@@ -203,7 +203,7 @@ fn expect_output(rt: &impl Abort, printed: &[u8], compared: u64, output: Option<
     }
 }
 
-/// Prints what a script prints, with what is told after each line, and then refuses each growth of its lines in turn.
+/// Prints what a script prints, with the events after each line, and then refuses each growth of its lines in turn.
 fn try_lines(
     rt: &(impl Abort + AllocGlobal),
     random: RandomState,

@@ -37,7 +37,7 @@ pub(crate) enum Line {
     AddNamed(&'static str, &'static str),
     /// In no script: the list of a kept query is brought up to date.
     Sync(&'static str),
-    /// In no script, but after each of its lines: the events that wait are told.
+    /// In no script, but after each of its lines: the events that wait are delivered.
     Events,
     /// In no script, but before one: a session is made.
     New,
@@ -196,7 +196,7 @@ pub(crate) fn print_lines<A: Allocator + Copy>(
     Ok(())
 }
 
-/// Lines, with what is told after each.
+/// Lines, with the events after each.
 pub(crate) fn with_events<A: Allocator>(
     alloc: A,
     lines: &[Line],

@@ -1,4 +1,4 @@
-//! The lists of kept queries: which tables are judged for them, what is told of them, and how many probes a run through
+//! The lists of kept queries: which tables are judged for them, what they list, and how many probes a run through
 //! them makes.
 
 ghost use Rattle.ecs_observe.specs.Following.{IsUpToDateAt};
@@ -162,7 +162,7 @@ fn expect_probes(rt: &impl Abort, alloc: Global, session: &mut Session) -> Resul
     Ok(())
 }
 
-/// The list of a kept query, as it is told, leads to the rows of the query, through changes.
+/// The list of a kept query, as it is given, leads to the rows of the query, through changes.
 fn expect_listed(rt: &impl Abort, alloc: Global, session: &mut Session) -> Result<(), Fail> {
     run(alloc, session, KEPT_QUERY.base)?;
     run(alloc, session, &STORED)?;

@@ -35,7 +35,7 @@ const AGAIN: EntityId = EntityId {
     generation: 1,
 };
 
-/// Facts that name nobody, or one who died: where a fact does both, the dead is told.
+/// Facts with a name of no entity, or a dead handle: where a fact has both, Dead is answered.
 const REFUSED: [(Reference, IdReference, Refusal); 4] = [
     (NOBODY, POSITION, Refusal::UnknownName),
     (SUN, IdReference::Plain(NOBODY), Refusal::UnknownName),
@@ -102,7 +102,7 @@ fn expect_refusals(rt: &impl Abort, session: &mut Session) {
     expect(rt, session, delete, refused(Refusal::UnknownName));
 }
 
-/// While events wait, each command is refused; once they were told, it is carried out.
+/// While events wait, each command is refused; once they were delivered, it is carried out.
 fn expect_watched(rt: &impl Abort, session: &mut Session) -> Result<(), Fail> {
     let (kind, name, text) = (StoredKind::Monitor, "a", "Position");
     expect_done(rt, session, Command::Store { kind, name, text });

@@ -16,8 +16,7 @@ pub(crate) struct Script {
     pub(crate) output: Option<Output>,
 }
 
-/// What a script prints, without the numbers of the lines that are refused, and how often whole rows are taken for its
-/// monitors.
+/// What a script prints, without the numbers of the lines that are refused, and how often its monitors are evaluated.
 #[derive(Clone, Copy)]
 pub(crate) struct Output {
     pub(crate) text: &'static [u8],
@@ -115,7 +114,7 @@ const MONITOR_OF_PARENTS: Script = Script {
     }),
 };
 
-/// A monitor of which few entities are asked: whole rows are taken when it is stored, and not again.
+/// A monitor of which few entities are asked: it is evaluated when it is stored, and not again.
 const ASKING_MONITOR: Script = Script {
     base: &SYSTEM,
     lines: &[
@@ -135,7 +134,7 @@ const ASKING_MONITOR: Script = Script {
     }),
 };
 
-/// A monitor of which all rows are taken, since whoever lives may be in them.
+/// A monitor that is re-evaluated, since whoever lives may be in its rows.
 const WHOLE_ROWS: Script = Script {
     base: &SYSTEM,
     lines: &[
@@ -173,7 +172,7 @@ const LOCAL_MONITOR: Script = Script {
     }),
 };
 
-/// A local monitor that is told of a new entity.
+/// A local monitor that is notified of a new entity.
 const NEW_ENTITY: Script = Script {
     base: &SYSTEM,
     lines: &[
@@ -186,8 +185,8 @@ const NEW_ENTITY: Script = Script {
     }),
 };
 
-/// No command is carried out while events wait, and rows are asked of kept queries alone. Here events are told where a
-/// line says so.
+/// No command is carried out while events wait, and rows are asked of kept queries alone. Here events are delivered
+/// where a line says so.
 pub(crate) const WAITING_EVENTS: Script = Script {
     base: &SYSTEM,
     lines: &[

@@ -38,7 +38,7 @@ fn kept_depth_of(
     Some(known_depth(graph, index, CHILD_OF, known, scratch))
 }
 
-/// A word for each entity that tells nothing.
+/// A word for each entity that says nothing.
 fn no_words(alloc: Global, graph: &ListGraph) -> Result<Vec<u32>, AllocError>
     ensures covered { IfOk result (λ words. length graph.now ≤ length words.items) }
     ensures none { IfOk result (λ words. NoneNoted words.items) }
