@@ -68,7 +68,7 @@ pub record Judges {X E : Type 0} (s : Store) (serial : ℕ) (r : Result X E) (be
   pub ok : OnOk r (count ≡ length above)
   pub counted : Counts before count after
 
--- the tables above a serial were judged, and those that suit were put behind the keys
+-- the tables above a serial were judged, and those that suit were appended to the keys
 pub record IsTakenIn {E : Type 0} (s : Store) (patterns : List Pattern) (last : ℕ) (r : Result ℕ E) (keys now : List TableKey) (before after : ℕ) : Type 0 where
   pub judges : Judges s last r before after
   pub taken : OnOk r (now ≡ keys ++ filter (is_kept patterns s) judges.above)

@@ -12,7 +12,7 @@ use Rattle.query_cache.specs.declared.table_block.Keep.TheVariants.{Standing, Up
 pub record Tables : Type 0 where
   pub items : List TableKey
 
--- the table that is by so many behind the first one of a block
+-- the table that comes so many after the first one of a block
 abbrev pub key_at : Block → ℕ → TableKey
 key_at b n = record { slot = b.slot + n; serial = b.serial + n }
 

@@ -18,7 +18,7 @@ touch_of t = record { index = t.index; before = option_map (λ ids. ids.items) t
 abbrev pub held_in : View → ℕ → Option (List Id)
 held_in w i = if contains w.entities i then Some (w.ids i) else None
 
--- these entities have in two views what they tell, and all others live in both or in neither, with the same ids
+-- these entities have the listed ids in two views, and all others live in both or in neither, with the same ids
 pub record AreTouched (touched : List Touch) (before after : View) : Type 0 where
   pub told_before : (t : Touch) → Contains touched t → t.before ≡ held_in before t.index
   pub told_after : (t : Touch) → Contains touched t → t.after ≡ held_in after t.index

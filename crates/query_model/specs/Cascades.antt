@@ -6,7 +6,8 @@ use Rattle.query_model.specs.Scope.{is_variable, this}
 use Rattle.query_model.specs.Syntax.{Reference, Cascade, Rise, up, Part, term}
 use Rattle.query_model.specs.Uses.{rise_of}
 
--- a term with `cascade`: in how many levels besides the whole query it stands, its source and the relationship behind the word, if they are written, and the word's place
+-- a term with `cascade`: in how many levels besides the whole query it stands, its source and the relationship after
+-- the word, if they are written, and the word's place
 pub record Cascading : Type 0 where
   pub levels : ℕ
   pub source : Option Reference
@@ -37,7 +38,7 @@ is_this_source (Some r) = is_variable this r
 abbrev pub is_misplaced : Cascading → Bool
 is_misplaced c = nat_lt 0 c.levels || not (is_this_source c.source)
 
--- the misplaced ones: the first, if it is so, and each behind it
+-- the misplaced ones: the first, if it is so, and each after it
 abbrev pub misplaced : List Cascading → List Cascading
 misplaced [] = []
 misplaced (c ∷ cs) = (if is_misplaced c then c ∷ [] else []) ++ cs

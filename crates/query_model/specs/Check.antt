@@ -1,4 +1,4 @@
--- The check of a query's syntax: its faults, the least of which is told.
+-- The check of a query's syntax: its faults, the least of which is reported.
 use Rattle.std.specs.Prelude.{ℕ, Bool, not, ◌||◌, List, [], ◌∷◌, ◌++◌, map, flat_map, length, drop, take, nat_lt, bytes_eq, Option, is_none, if◌then◌else◌}
 use Rattle.std.specs.List.{list_any}
 use Rattle.std.specs.Option.{option_map_or}
@@ -34,7 +34,7 @@ abbrev pub unknown_word : Known → Spoken → Span → List Fault
 unknown_word k (Word n) s = when (is_none (k.named n)) (fault_at UnknownName s)
 unknown_word k w s = []
 
--- an entity behind `up` or `cascade` that can't be traversed
+-- an entity after `up` or `cascade` that can't be traversed
 abbrev pub not_traversable : Known → Spoken → Span → List Fault
 not_traversable k (Word n) s = option_map_or (λ e. when (not (k.traversable e.index)) (fault_at NotTraversable s)) (k.named n) []
 not_traversable k w s = []

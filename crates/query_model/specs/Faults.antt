@@ -1,4 +1,4 @@
--- The faults of query text, and which of several is told.
+-- The faults of query text, and which of several is reported.
 use Rattle.std.specs.Prelude.{ℕ, ◌==◌, Bool, ◌&&◌, ◌||◌, List, fold, nat_lt, Option, Some, Result, Ok, Err, if◌then◌else◌}
 use Rattle.std.specs.Option.{option_map_or}
 use Rattle.query_model.specs.declared.Span.{Span}

@@ -1,4 +1,4 @@
--- A variable that isn't bound may as well be told at its first occurrence alone.
+-- A variable that isn't bound may as well be reported at its first occurrence alone.
 use Rattle.std.specs.Prelude.{◌≡◌, ℕ, ◌≤◌, List, [], ◌∷◌, ◌++◌, flat_map, Option, if◌then◌else◌}
 use Rattle.std.specs.List.{list_any}
 use Rattle.query_model.specs.declared.faults.Fault.{Fault}

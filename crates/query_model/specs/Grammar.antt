@@ -79,7 +79,8 @@ pub data IsTerm : List Token → List Token → TermSyntax → Type 0 where
   body : {ts us : List Token} {t : TermSyntax} → IsBody true ts us t → IsTerm ts us t
   body_behind_access : {ts us vs : List Token} {v : Bool} {t : TermSyntax} → IsAccess ts us v → IsBody v us vs t → IsTerm ts vs t
 
--- chain: terms with `||` between, the first in a role of its own; each form from here on with the parts behind it, and with its own in front of those
+-- chain: terms with `||` between, the first in a role of its own; each form from here on with the parts after it, and
+-- with its own before those
 pub data IsChain : Role → List Token → List Token → List Part → List Part → Type 0 where
   last_alternative : {role : Role} {ts us : List Token} {t : TermSyntax} {ps : List Part} → IsTerm ts us t → IsChain role ts us ps (term role t ∷ ps)
   alternative : {role : Role} {s : Span} {ts us vs : List Token} {t : TermSyntax} {ps qs : List Part} → IsTerm ts (token (Punct OrOr) s ∷ us) t → IsChain Or us vs ps qs
@@ -96,7 +97,7 @@ pub data IsEquals : Token → Bool → Type 0 where
   differ : {s : Span} → IsEquals (token (Punct NotEqual) s) false
 
 mutual
-  -- item: a chain, a term behind an operator, perhaps with an access before that, a negated group, or an equality
+  -- item: a chain, a term after an operator, perhaps with an access before that, a negated group, or an equality
   pub data IsItem : List Token → List Token → List Part → List Part → Type 0 where
     terms : {ts us : List Token} {ps qs : List Part} → IsChain And ts us ps qs → IsItem ts us ps qs
     operator : {o : Token} {role : Role} {ts us : List Token} {t : TermSyntax} {ps : List Part} → IsOperator o role → IsTerm ts us t → IsItem (o ∷ ts) us ps (term role t ∷ ps)

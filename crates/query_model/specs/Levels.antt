@@ -18,7 +18,7 @@ path_in n path (opened s) = n ∷ path
 path_in n path (term Not t) = n ∷ path
 path_in n path p = path
 
--- where the part behind it stands, unless that begins a level
+-- where the part after it stands, unless that begins a level
 abbrev pub path_behind : ℕ → Path → Part → Path
 path_behind n path (opened s) = n ∷ path
 path_behind n path closed = drop 1 path
@@ -33,13 +33,13 @@ placed n path (p ∷ ps) = (path_in n path p, p) ∷ placed (n + 1) (path_behind
 abbrev pub placed_parts : List Part → List (Path × Part)
 placed_parts ps = placed 1 [] ps
 
--- the alternatives at the front of parts
+-- the alternatives at the beginning of parts
 abbrev pub alternatives : List Part → List TermSyntax
 alternatives [] = []
 alternatives (term Or t ∷ ps) = t ∷ alternatives ps
 alternatives (p ∷ ps) = []
 
--- each part with the alternatives that stand behind it
+-- each part with the alternatives that stand after it
 abbrev pub with_alternatives : List (Path × Part) → List ((Path × Part) × List TermSyntax)
 with_alternatives [] = []
 with_alternatives (p ∷ ps) = (p, alternatives (map (λ q. q.1) ps)) ∷ with_alternatives ps

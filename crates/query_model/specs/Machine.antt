@@ -9,7 +9,7 @@ use Rattle.query_model.specs.Tokens.{Token, token, span_of, Name, Variable, Punc
 use Rattle.query_model.specs.Syntax.{Reference, at, Word, Var, Any, AnyOnce, RiseWord, Up, Cascade, none, flags, TermSyntax, Part, term, opened, closed, equality, component, pair_of, applied, rising, with_target, ended_at}
 use Rattle.query_model.specs.Grammar.{is_access, shows_values}
 
--- what is to come, or behind what the machine stands, with what was read of the item
+-- what is to come, or what was read last, with what was read of the item
 pub data State : Type 0 where
   -- a term; in the role And an item, since nothing stands before it
   term_next : Role → State
@@ -23,7 +23,7 @@ pub data State : Type 0 where
   behind_up along_next : Role → Bool → Reference → Option Reference → Bool → RiseWord → State
   behind_variable : List ℕ → Span → State
   other_side : Reference → Bool → State
-  -- behind an item, and whether an alternative to it may follow
+  -- after an item, and whether an alternative to it may follow
   behind_item : Bool → State
   finished : State
 
@@ -65,7 +65,7 @@ abbrev pub alternative_step : Bool → ℕ → Option Move
 alternative_step true d = go_to d (term_next Or)
 alternative_step false d = None
 
--- behind an item
+-- after an item
 abbrev pub item_step : ℕ → Bool → Token → Option Move
 item_step d may_join (token (Punct OrOr) s) = alternative_step may_join d
 item_step d may_join (token (Punct Comma) s) = go_to d (term_next And)
@@ -158,7 +158,7 @@ abbrev pub plain_term_step : ℕ → Role → Token → Option Move
 plain_term_step d role (token (Punct OpenBracket) s) = go_to d (access_next role)
 plain_term_step d role x = start_step d role true x
 
--- a term; where nothing stands before it, perhaps an operator or an equality; behind `!` perhaps a group
+-- a term; where nothing stands before it, perhaps an operator or an equality; after `!` perhaps a group
 abbrev pub term_step : ℕ → Role → Token → Option Move
 term_step d And (token (Variable v) s) = go_to d (behind_variable v s)
 term_step d And (token (Punct Bang) s) = go_to d (term_next Not)
@@ -199,7 +199,7 @@ step d (other_side r same) x = other_step d r same x
 step d (behind_item may_join) x = item_step d may_join x
 step d finished x = None
 
--- a part in front of those that are read behind it
+-- a part before those that are read after it
 abbrev pub before_part : Part → Result (List Part) Span → Result (List Part) Span
 before_part p (Ok ps) = Ok (p ∷ ps)
 before_part p (Err span) = Err span
@@ -208,7 +208,7 @@ abbrev pub before_parts : List Part → Result (List Part) Span → Result (List
 before_parts [] r = r
 before_parts (p ∷ ps) r = before_part p (before_parts ps r)
 
--- what next reads behind a step, or the token that allows none
+-- what next reads after a step, or the token that allows none
 abbrev pub behind : Span → (ℕ → State → Result (List Part) Span) → Option Move → Result (List Part) Span
 behind span next None = Err span
 behind span next (Some m) = before_parts m.parts (next m.depth m.state)

@@ -26,7 +26,7 @@ is_this s = bytes_eq s.name this
 abbrev pub has_this : List Part → Bool
 has_this ps = list_any is_this (sightings ps) || list_any understands_this ps
 
--- a variable behind others, unless it is one of them
+-- a variable after others, unless it is one of them
 abbrev pub add_new : List Variable → Variable → List Variable
 add_new vs v = if list_any (same_variable v) vs then vs else vs ++ v ∷ []
 

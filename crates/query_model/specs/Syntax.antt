@@ -67,7 +67,7 @@ pair_of shows_value s r = record { shows_value = shows_value; component = r; tar
 abbrev pub applied : Bool → Reference → Option Reference → Option Flags → TermSyntax
 applied shows_value r source f = record { shows_value = shows_value; component = r; target = None; source = source; flags = f; span = r.span }
 
--- and with `up` or `cascade`, perhaps behind `self`
+-- and with `up` or `cascade`, perhaps after `self`
 abbrev pub rising : Bool → Reference → Option Reference → Bool → RiseWord → Option Reference → TermSyntax
 rising shows_value c source on_source w along = applied shows_value c source (Some (flags on_source (up w along)))
 

@@ -61,11 +61,12 @@ is_sign End = false
 abbrev pub IsToken : List ℕ → Type 0
 IsToken bytes = (s : Sign) × IsTrue (is_sign s) × (spelled s ≡ bytes)
 
--- no longer front of the text spells a token
+-- no longer prefix of the text spells a token
 abbrev pub IsLongest : ℕ → List ℕ → Type 0
 IsLongest n text = (k : ℕ) → n < k → k ≤ length text → ¬ IsToken (take k text)
 
--- the tokens stand in a row at the front of the text, whose first byte is at a place, each the longest that can stand there, with blanks between, and rest is what is left
+-- the tokens stand in a row at the beginning of the text, whose first byte is at a place, each the longest that can
+-- stand there, with blanks between, and rest is what is left
 abbrev pub Spells : ℕ → List ℕ → List Token → List ℕ → Type 0
 Spells at text [] rest =
     (blanks : List ℕ) × (text ≡ blanks ++ rest) × IsTrue (list_all is_query_blank blanks)
@@ -75,11 +76,11 @@ Spells at text (token s span ∷ ts) rest =
     × (span ≡ record { start = at + length blanks; end = at + length blanks + length (spelled s) })
     × Spells (at + length blanks + length (spelled s)) left ts rest
 
--- the empty part behind a text
+-- the empty part after a text
 abbrev pub end_of : List ℕ → Token
 end_of text = token End (record { start = length text; end = length text })
 
--- the text spells the tokens, behind which stands its end
+-- the text spells the tokens, after which stands its end
 abbrev pub IsSpelledBy : List ℕ → List Token → Type 0
 IsSpelledBy text tokens = (ts : List Token) × Spells 0 text ts [] × (tokens ≡ ts ++ end_of text ∷ [])
 
@@ -87,7 +88,7 @@ IsSpelledBy text tokens = (ts : List Token) × Spells 0 text ts [] × (tokens �
 abbrev pub char_len : ℕ → ℕ
 char_len b = if nat_lt b 128 then 1 else if nat_lt b 224 then 2 else if nat_lt b 240 then 3 else 4
 
--- the first character, behind tokens and blanks, at which no token can begin
+-- the first character, after tokens and blanks, at which no token can begin
 abbrev pub IsLexFault : List ℕ → Span → Type 0
 IsLexFault text span =
     (ts : List Token) × (b : ℕ) × (rest : List ℕ) × Spells 0 text ts (b ∷ rest) × (is_query_blank b ≡ false) × IsLongest 0 (b ∷ rest)
@@ -95,16 +96,16 @@ IsLexFault text span =
 
 -- The same as functions.
 
--- a variable behind its `$`
+-- a variable after its `$`
 abbrev pub variable_at : List ℕ → Option Sign
 variable_at [] = None
 variable_at (b ∷ bs) = if is_letter b then Some (Variable (take (prefix_len is_word_byte (b ∷ bs)) (b ∷ bs))) else None
 
--- the mark at the front of a text
+-- the mark at the beginning of a text
 abbrev pub mark_at : List ℕ → Option Sign
 mark_at text = option_map Punct (find (λ m. starts_with nat_eq text (spelling m)) marks)
 
--- the longest token at the front of a text, if one begins there
+-- the longest token at the beginning of a text, if one begins there
 abbrev pub sign_at : List ℕ → Option Sign
 sign_at [] = None
 sign_at (b ∷ bs) =
@@ -112,7 +113,7 @@ sign_at (b ∷ bs) =
     else if b == 36 then variable_at bs
     else mark_at (b ∷ bs)
 
--- a token in front of what is read after it
+-- a token before what is read after it
 abbrev pub before_rest : Token → Result (List Token) Span → Result (List Token) Span
 before_rest t (Ok ts) = Ok (t ∷ ts)
 before_rest t (Err span) = Err span
@@ -121,7 +122,7 @@ before_rest t (Err span) = Err span
 abbrev pub first_char : ℕ → List ℕ → Span
 first_char at text = record { start = at; end = at + char_len (option_map_or (λ b. b) (slice_get text 0) 0) }
 
--- the token at the front, if there is one, and then what next reads of the rest
+-- the token at the beginning, if there is one, and then what next reads of the rest
 abbrev pub token_then : (ℕ → List ℕ → Result (List Token) Span) → ℕ → List ℕ → Option Sign → Result (List Token) Span
 token_then next at text None = Err (first_char at text)
 token_then next at text (Some s) =

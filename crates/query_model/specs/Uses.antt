@@ -21,7 +21,7 @@ abbrev pub along_what : Rise → Option Reference
 along_what none = None
 along_what (up w r) = r
 
--- the relationship that is written behind `up` or `cascade`
+-- the relationship that is written after `up` or `cascade`
 abbrev pub risen : TermSyntax → Option Reference
 risen t = along_what (rise_of t.flags)
 

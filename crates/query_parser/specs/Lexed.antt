@@ -26,11 +26,11 @@ abbrev pub placed : ℕ → List ℕ → Option Sign → Result Token Span
 placed at text None = Err (first_char at text)
 placed at text (Some s) = Ok (token s (record { start = at; end = at + length (spelled s) }))
 
--- the token at the front of a text that begins at a place without blanks
+-- the token at the beginning of a text that begins at a place without blanks
 abbrev pub token_of : ℕ → List ℕ → Result Token Span
 token_of at [] = Ok (token End (record { start = at; end = at }))
 token_of at (b ∷ bs) = placed at (b ∷ bs) (sign_at (b ∷ bs))
 
--- the token that follows a place in the text, behind blanks
+-- the token that follows a place in the text, after blanks
 abbrev pub next_of : List ℕ → ℕ → Result Token Span
 next_of text from = let start = from + prefix_len is_query_blank (drop from text) in token_of start (drop start text)

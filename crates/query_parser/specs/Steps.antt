@@ -66,7 +66,7 @@ module _ (d : Draft) where
   put_first (Equality same) o = machine.emit (syntax.equality first_of same (seen_reference d.last)) o
   put_first Opening o = machine.emit (syntax.opened (d.term).span) o
 
--- the groups that are open behind a step
+-- the groups that are open after a step
 abbrev pub nested : ℕ → Nesting → ℕ
 nested d Same = d
 nested d Opens = d + 1
@@ -75,12 +75,12 @@ nested d Closes = d - 1
 abbrev pub seen_step : ℕ → Draft → Move → machine.Move
 seen_step depth d m = record { depth = nested depth m.nesting; state = seen_state d m.state; parts = completed d m.part m.nesting }
 
--- `up` or `cascade`, perhaps behind a source and `self`
+-- `up` or `cascade`, perhaps after a source and `self`
 abbrev pub rise_step : ℕ → Role → Bool → syntax.Reference → Option syntax.Reference → Bool → tokens.Token → Option machine.Move
 rise_step d role v c source own (tokens.token (tokens.Name n) s) = machine.rise_word_step d role v c source own n s
 rise_step d role v c source own x = None
 
--- behind `up` or `cascade`, where no bracket follows
+-- after `up` or `cascade`, where no bracket follows
 abbrev pub plain_up_step : ℕ → Role → Bool → syntax.Reference → Option syntax.Reference → Bool → syntax.RiseWord → tokens.Token → Option machine.Move
 plain_up_step d role v c source own w x =
     machine.if_read (machine.word_of x) (λ r. machine.go_to d (machine.behind_flags role (syntax.rising v c source own w (Some r)))) (machine.args_step d role (syntax.rising v c source own w None) x)

@@ -104,14 +104,14 @@ needs_from v whole depth (p ∷ ps) =
     if depth == 0 && not whole && is_end p then []
     else (if depth == 0 then piece_needs v p else []) ++ needs_from v whole (depth_behind depth p) ps
 
--- by items in front of all groups, of `$this`
+-- by items before all groups, of `$this`
 abbrev pub needs_in_front : List Piece → List Pattern
 needs_in_front [] = []
 needs_in_front (item x ∷ ps) = item_needs 0 x ++ needs_in_front ps
 needs_in_front (opening from_term own ∷ ps) = []
 needs_in_front (closing ∷ ps) = []
 
--- ---- what ids alone may tell
+-- ---- what ids alone may decide
 
 abbrev pub may_be_met : Item → Bool
 may_be_met (must t) = asks_first t && is_constant t.component && is_constant_target t.target
@@ -120,14 +120,14 @@ may_be_met (either ts) = true
 may_be_met (equal v r) = false
 may_be_met (differ v r) = false
 
--- whether each item in front of all groups may be met by the ids of `$this`
+-- whether each item before all groups may be met by the ids of `$this`
 abbrev pub may_meet : List Piece → Bool
 may_meet [] = true
 may_meet (item x ∷ ps) = may_be_met x && may_meet ps
 may_meet (opening from_term own ∷ ps) = true
 may_meet (closing ∷ ps) = true
 
--- ---- what is told of ids
+-- ---- what is known of ids
 
 -- for whom an id concerns a query, by what its terms ask for
 abbrev pub one_concern : Id → AskedTerm → Concern
@@ -155,7 +155,8 @@ counts_as only ids i a = only a.variable && counts ids i a
 abbrev pub any_counts_as : {A : Type 0} → (ℕ → Bool) → List (AskedOf A) → List Id → Id → Bool
 any_counts_as only all ids i = list_any (counts_as only ids i) all
 
--- what is asked of whom those of its variables stand for that pass a test tells of each fact whether it is idle for these
+-- for the variables of a query that pass a test: what is asked of whom they stand for decides whether an id is idle
+-- for these
 abbrev pub TellsIdle : {A : Type 0} → Query → List (AskedOf A) → Type 0
 TellsIdle q others = (only : ℕ → Bool) (ids : List Id) (i : Id) → any_counts_as only others ids i ≡ not (are_all_bound (λ v l. not (only v) || is_idle_for ids i (terms_of q) v l) q)
 

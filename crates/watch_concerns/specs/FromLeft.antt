@@ -34,7 +34,7 @@ is_end (item x) = false
 is_end (opening from_term own) = false
 is_end closing = true
 
--- how many groups are open behind a piece
+-- how many groups are open after a piece
 abbrev pub depth_behind : ℕ → Piece → ℕ
 depth_behind depth (item x) = depth
 depth_behind depth (opening from_term own) = depth + 1
@@ -55,7 +55,7 @@ module _ (test : Item → Bool) where
       else passes_from whole (depth_behind depth p) ps
 
 module _ (holds : List Piece → ℕ → Bool) where
-  -- whether each own variable of each group holds, by the pieces behind the group's begin
+  -- whether each own variable of each group holds, by the pieces after the group's beginning
   abbrev pub each_group : List Piece → Bool
   each_group [] = true
   each_group (item x ∷ ps) = each_group ps

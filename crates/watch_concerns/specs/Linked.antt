@@ -1,4 +1,5 @@
--- Linked queries: each variable stands for somebody who has a pair in common with `$this`, or with whom a variable before it stands for.
+-- Linked queries: each variable stands for an entity that has a pair in common with `$this`, or with whom a variable
+-- before it stands for.
 use Rattle.std.specs.Prelude.{ℕ, ◌==◌, Bool, false, not, ◌&&◌, ◌||◌, nat_lt, Option, is_none}
 use Rattle.std.specs.List.{list_all}
 use Rattle.std.specs.Option.{option_map_or}

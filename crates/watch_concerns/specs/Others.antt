@@ -13,7 +13,7 @@ use Rattle.watch_concerns.specs.Concerns.{term_concerns}
 abbrev pub asks_this_stored : Term → Bool
 asks_this_stored t = is_first t.source && not t.closed
 
--- whether an id concerns a term that asks somebody else
+-- whether an id concerns a term that asks another entity
 abbrev pub term_concerns_others : Id → Term → Bool
 term_concerns_others i t = not (asks_this_stored t) && term_concerns i t
 

@@ -1,4 +1,4 @@
--- What an entity's ids alone tell of whether it is `$this` of a row.
+-- Whether an entity is `$this` of a row, as far as its ids alone decide it.
 use Rattle.std.specs.Prelude.{◌==◌, Bool, true, false, not, ◌&&◌, ◌||◌, List, [], ◌∷◌, length, if◌then◌else◌}
 use Rattle.std.specs.List.{list_any}
 use Rattle.ecs_id.specs.Id.{Id, plain}
@@ -17,7 +17,7 @@ abbrev pub item_lacks : List Id → Item → Bool
 item_lacks ids (must t) = asks_first t && not (list_any (may_match t.component t.target) ids)
 item_lacks ids x = false
 
--- whether they lack it for an item in front of all groups
+-- whether they lack it for an item before all groups
 abbrev pub lacks_from : List Id → List Piece → Bool
 lacks_from ids [] = false
 lacks_from ids (item x ∷ ps) = item_lacks ids x || lacks_from ids ps

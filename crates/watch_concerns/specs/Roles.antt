@@ -49,7 +49,8 @@ module _ (by : ℕ → Term → Bool) where
   unfoldable pub leads_in : Query → ℕ → ℕ → Id → Bool
   leads_in q u v i = nat_lt u v && list_any (λ t. by v t && joins v u t && may_match t.component t.target i) (terms q)
 
-  -- in a view, all are near to whom a pair leads from somebody near, of those who may stand there by ids that they hold
+  -- in a view, all are near to whom a pair leads from one that is near, of those who may stand there by ids that they
+  -- hold
   pub record LeadsOn (q : Query) (all : ℕ → List Id) (w : View) (near : ℕ → ℕ → Bool) : Type 0 where
     pub target : (u v r x y : ℕ) → near u x ≡ true → may_stand q (all x) u ≡ true → may_stand q (all y) v ≡ true → Contains (w.ids x) (pair r y) → leads_out q u v (pair r y) ≡ true → near v y ≡ true
     pub holder : (u v r x y : ℕ) → near u x ≡ true → may_stand q (all x) u ≡ true → may_stand q (all y) v ≡ true → Contains (w.ids y) (pair r x) → leads_in q u v (pair r x) ≡ true → near v y ≡ true

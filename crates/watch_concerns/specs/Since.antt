@@ -1,4 +1,5 @@
--- What a stored query is told of a command, by the world after it and what has changed: of the world before nothing else is needed but the entities of a monitor's rows.
+-- What a stored query is notified of after a command, by the world after it and what has changed: of the world before
+-- nothing else is needed but the entities of a monitor's rows.
 use Rattle.std.specs.Prelude.{◌≡◌, ℕ, ◌==◌, Bool, not, ◌&&◌, ◌||◌, List, [], ◌++◌, map, filter, codes, Option, None, Some, Ok}
 use Rattle.std.specs.List.{find, list_any}
 use Rattle.std.specs.Option.{option_map_or}
@@ -69,7 +70,7 @@ module _ (after : WorldState) (changed : Changed) where
   abbrev pub is_cut_before : Query → ℕ → ℕ → Bool
   is_cut_before q tag e = held_before e (plain tag) && not (level_mentions tag (top q))
 
-  -- whether an observer is told of a fact that went: it matches, and its entity was not passed over
+  -- whether an observer is notified of a fact that went: it matches, and its entity was not passed over
   abbrev pub observed_before : Query → Key → Bool
   observed_before q k = matches_term q k.1 && not (is_cut_before q prefab k.0 || is_cut_before q disabled k.0)
 

@@ -1,4 +1,4 @@
--- For whom an id concerns a query, told at once.
+-- For whom an id concerns a query, found at once.
 use Rattle.std.specs.Prelude.{◌||◌, List}
 use Rattle.std.specs.List.{list_any}
 use Rattle.ecs_id.specs.Id.{Id}

@@ -54,6 +54,6 @@ AreSame old new = (o : Occasion) (n : ℕ) → is_listed new o n ≡ is_listed o
 abbrev pub shares_mark : List Occasion → ℕ → Bool
 shares_mark os m = list_any (λ one. m == mark_of one) os
 
--- whatever has no mark is looked out for by nobody
+-- whatever has no mark is looked out for by none
 abbrev pub AreMarked : List ℕ → Listings → Type 0
 AreMarked words ls = (o : Occasion) (n : ℕ) → is_set words (mark_of o) ≡ false → is_listed ls o n ≡ false

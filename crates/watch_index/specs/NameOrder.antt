@@ -48,7 +48,8 @@ pub record HasRoom {V A : Type 0} (s : NameOrder V A) : Type 0 where
   pub made : vec_len s.made + 1 ≤ vec_capacity s.made
   pub numbers : 1 ≤ spare s.numbers
 
--- a value is ready to be put behind the others, in a box and beside its name as a key: its number is above theirs, and there is room
+-- a value is ready to be put after the others, in a box and beside its name as a key: its number is above theirs, and
+-- there is room
 pub record IsReady {V A : Type 0} (s : NameOrder V A) (k : String A) (v : V) (r : String A × Boxed V A) : Type 0 where
   pub key : string_bytes r.0 ≡ string_bytes k
   pub name : name_in r.1 ≡ k

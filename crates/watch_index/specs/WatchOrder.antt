@@ -28,7 +28,7 @@ pub record IsWatched {V A : Type 0} (s : WatchOrder V A) : Type 0 where
   pub order : named.IsInOrder s.order
   pub index : IsIndexed s.index s.order.made.items
 
--- a value is ready to be put behind the others, and listed already
+-- a value is ready to be put after the others, and listed already
 pub record IsOpen {V A : Type 0} (s : WatchOrder V A) (name : String A) (value : Watcher V A) (r : String A × Boxed V A) : Type 0 where
   pub order : named.IsInOrder s.order
   pub ready : named.IsReady s.order name value r
