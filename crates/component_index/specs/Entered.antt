@@ -50,7 +50,7 @@ same_table x y h =
 table_eq_itself : (x : TableKey) → table_eq x x ≡ true
 table_eq_itself x = sym (eq_by-table_cmp x x) ∙ (eq_by_cmp_equiv table_cmp_total).refl x
 
--- the test of a map by table with what it tells, for `grind`
+-- the test of a map by table with what it means, for `grind`
 pub table_cmp_tells : (x y : TableKey) → ((eq_by_cmp table_cmp x y ≡ true) × (x ≡ y)) ⊎ ((eq_by_cmp table_cmp x y ≡ false) × (x ≢ y))
 table_cmp_tells x y = by (table_eq x y) refl
   where

@@ -50,7 +50,7 @@ abbrev pub own_text : SessionOrder → Option EntityId → List ℕ
 own_text (InWorld MakeFresh) (Some e) = handle_text e ++ codes "\n"
 own_text order born = []
 
--- what a line of a command does: its events are told behind what it prints itself
+-- what a line of a command does: its events are printed after what it prints itself
 abbrev pub order_effect : SessionState → ℕ → SessionOrder → Answer → Effect
 order_effect s n order (Err r) = refused_line s n (session_refusal_text r)
 order_effect s n order (Ok a) = accepted_line (after_events a.0) (own_text order a.1 ++ flat_map event_text (events a.0))

@@ -26,15 +26,15 @@ without_empty_last [] = []
 without_empty_last ([] ∷ []) = []
 without_empty_last (l ∷ ls) = l ∷ without_empty_last ls
 
--- the lines of a script: what stands between line feeds, and behind the last one if it isn't empty
+-- the lines of a script: what stands between line feeds, and after the last one if it isn't empty
 unfoldable pub lines_of : List ℕ → List (List ℕ)
 lines_of script = without_empty_last (slice_split (λ b. b == 10) script)
 
--- the first word of a text, and what stands behind it
+-- the first word of a text, and what stands after it
 abbrev pub word_and_rest : List ℕ → List ℕ × List ℕ
 word_and_rest bs = (before_first is_blank (trim_front bs), drop (length (before_first is_blank (trim_front bs))) (trim_front bs))
 
--- a handle behind its `#`: `index.generation`, of 1 to 9 digits, and of 1 to 5 that are at most 65535
+-- a handle after its `#`: `index.generation`, of 1 to 9 digits, and of 1 to 5 that are at most 65535
 abbrev pub handle_of : List ℕ → Option EntityRef
 handle_of bs =
     let i = before_first (λ b. b == 46) bs in
@@ -63,13 +63,13 @@ abbrev pub is_apart : List ℕ → Bool
 is_apart [] = true
 is_apart (b ∷ bs) = is_blank b
 
--- a pair behind its `(`, and what stands behind its `)`
+-- a pair after its `(`, and what stands after its `)`
 abbrev pub pair_and_rest : List ℕ → Option (IdRef × List ℕ)
 pair_and_rest bs =
     let rest = after_first (λ b. b == 41) bs in
     if list_any (λ b. b == 41) bs && is_apart rest then option_map (λ i. (i, rest)) (pair_in (before_first (λ b. b == 41) bs)) else None
 
--- an id at the front of a text without blanks at its front, and what stands behind it
+-- an id at the beginning of a text without blanks there, and what stands after it
 abbrev pub id_and_rest : List ℕ → Option (IdRef × List ℕ)
 id_and_rest [] = None
 id_and_rest (b ∷ bs) =
@@ -118,23 +118,23 @@ one_word f _ = BadLine
 abbrev pub entity_line : (EntityRef → Form) → List ℕ → Form
 entity_line f rest = one_word (λ w. form_or_bad f (reference_of w)) (words rest)
 
--- a line of an entity, an id and the words behind it
+-- a line of an entity, an id and the words after it
 abbrev pub fact_line : (EntityRef → IdRef → List (List ℕ) → Form) → List ℕ → Form
 fact_line f rest =
     let e = word_and_rest rest in
     form_or_bad (λ r. form_or_bad (λ i. f r i.0 (words i.1)) (id_and_rest (trim_front e.1))) (reference_of e.0)
 
--- a form behind which no word stands
+-- a form after which no word stands
 abbrev pub nothing_more : Form → List (List ℕ) → Form
 nothing_more f [] = f
 nothing_more f _ = BadLine
 
--- behind the entity and the id of `set`: one or more values
+-- after the entity and the id of `set`: one or more values
 abbrev pub set_line : EntityRef → IdRef → List (List ℕ) → Form
 set_line r i [] = BadLine
 set_line r i (v ∷ vs) = form_or_bad (λ values. CarryOut (InWorld (SetIn r i values))) (all_of value_of_word (v ∷ vs))
 
--- behind `component`: a name and fields
+-- after `component`: a name and fields
 abbrev pub component_line : List (List ℕ) → Form
 component_line [] = BadLine
 component_line (n ∷ fields) = form_or_bad (Define n) (all_of field_of_word fields)
@@ -151,7 +151,7 @@ store_line kind rest = named_text kind (word_and_rest rest)
 abbrev pub event_words : List (List ℕ × StoredKind)
 event_words = (codes "add", OnAdd) ∷ (codes "remove", OnRemove) ∷ (codes "set", OnSet) ∷ []
 
--- behind `on`: an event, and an observer of it
+-- after `on`: an event, and an observer of it
 abbrev pub on_line : List ℕ → Form
 on_line rest = let split = word_and_rest rest in form_or_bad (λ kind. store_line kind split.1) (looked_up event_words split.0)
 

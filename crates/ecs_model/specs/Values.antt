@@ -13,7 +13,7 @@ use Rattle.ecs_model.specs.Schema.{Schema, zeros}
 abbrev pub IsFilledUp : List ℤ → ℕ → Type 0
 IsFilledUp numbers count = (count ≤ 8) × (length numbers ≡ 8) × (drop count numbers ≡ replicate (8 - count) (pos 0))
 
--- the numbers in use tell the rest
+-- the numbers in use decide the rest
 pub given_back : (numbers : List ℤ) (count : ℕ) → IsFilledUp numbers count
     → (take count numbers ++ replicate (8 - length (take count numbers)) (pos 0) ≡ numbers) × (length (take count numbers) ≡ count)
 given_back numbers count h =
@@ -25,7 +25,7 @@ pub zeros-replicate : (fs : Schema) → zeros fs ≡ replicate (length fs) (pos 
 zeros-replicate [] = refl
 zeros-replicate (f ∷ fs) = ap (λ vs. pos 0 ∷ vs) (zeros-replicate fs)
 
--- `==` on values with what it tells, for `grind`
+-- `==` on values with what it means, for `grind`
 pub value_eq_tells : (xs ys : List ℤ) → ((pointwise int_eq xs ys ≡ true) × (xs ≡ ys)) ⊎ ((pointwise int_eq xs ys ≡ false) × (xs ≢ ys))
 value_eq_tells xs ys = by (pointwise int_eq xs ys) refl
   where

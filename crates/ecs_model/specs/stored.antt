@@ -1,4 +1,5 @@
--- Stored queries: what they are told of commands, the session that has them, and the tables that a kept one lists.
+-- Stored queries: what they are notified of after commands, the session that has them, and the tables that a kept one
+-- lists.
 pub mod Watches
 pub mod Refusal
 pub mod Session

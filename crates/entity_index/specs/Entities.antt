@@ -13,7 +13,7 @@ pub record Entities : Type 0 where
   pub live : Map ℕ ℕ
   -- how often an index was deleted, where it was
   pub deletions : Map ℕ ℕ
-  -- where the row of an entity stands, where that was told
+  -- where the row of an entity stands, where that was written
   pub places : Map ℕ Place
   -- the greatest index that is given out
   pub last : ℕ
@@ -63,7 +63,7 @@ module _ (w : Entities) where
     places = without nat_cmp w.places (λ k. k == i);
   }
 
-  -- after the place of the entity at an index was told
+  -- after the place of the entity at an index was written
   abbrev pub with_place : ℕ → Place → Entities
   with_place i place = record w { places = with_value nat_cmp w.places i place }
 

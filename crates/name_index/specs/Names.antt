@@ -47,7 +47,7 @@ pub record AreApart {Y R S : Type 0} (short : HashMap (List ℕ) EntityId R) (lo
   pub shorts : (q : List ℕ) → is_short q ≡ false → get (pointwise nat_eq) short q ≡ None
   pub longs : (q : List ℕ) → is_short q ≡ true → get_by_text long q ≡ None
 
--- two ways to an entity's name tell of all the names, and of no others
+-- two ways to an entity's name give all the names, and no others
 pub record Tells (first other : EntityId → Option (List ℕ)) (names : Names) : Type 0 where
   pub placed : (q : List ℕ) (e : EntityId) → first e ≡ Some q → finite.get names q ≡ Some e
   pub apart : (q : List ℕ) (e : EntityId) → other e ≡ Some q → finite.get names q ≡ Some e

@@ -1,4 +1,4 @@
--- Columns in a run of bytes: one behind the other, each with a place for each of so many rows.
+-- Columns in a run of bytes: one after another, each with a place for each of so many rows.
 use Rattle.std.specs.Prelude.{ℕ, zero, suc, ◌+◌, ◌-◌, ◌*◌, List, [], ◌∷◌, ◌++◌, take, drop, length, replicate, slice_index_or, slice_set}
 
 -- the values of one column: how many bytes each has, and the bytes by row

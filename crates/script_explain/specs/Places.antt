@@ -9,7 +9,7 @@ pub record IsWithin (line : List ℕ) (part : Part) : Type 0 where
   pub ascends : part.start ≤ part.end
   pub within : part.end ≤ length line
 
--- what stands behind so many words of a text, from the next word on
+-- what stands after so many words of a text, from the next word on
 abbrev pub text_behind : ℕ → List ℕ → List ℕ
 text_behind zero bs = trim_front bs
 text_behind (suc n) bs = text_behind n (word_and_rest bs).1

@@ -30,11 +30,11 @@ seen_field f = record { name = (f.0).now; kind = f.1 }
 abbrev pub seen_handle : EntityId → EntityRef
 seen_handle e = by_handle e.index e.generation
 
--- a reference that was read, and what stands behind it
+-- a reference that was read, and what stands after it
 abbrev pub seen_reference_and_rest : Reference × Bor (List ℕ) → EntityRef × List ℕ
 seen_reference_and_rest p = (seen_reference p.0, (p.1).now)
 
--- an id that was read, and what stands behind it
+-- an id that was read, and what stands after it
 abbrev pub seen_id_and_rest : IdReference × Bor (List ℕ) → IdRef × List ℕ
 seen_id_and_rest p = (seen_id p.0, (p.1).now)
 
@@ -46,15 +46,15 @@ ends_reference c = is_blank c || c == 40 || c == 41 || c == 44
 abbrev pub unsigned_of_word : List ℕ → Option ℤ
 unsigned_of_word w = if is_number 1 38 w then Some (pos (number_of w)) else None
 
--- a value that was read, and what stands behind it
+-- a value that was read, and what stands after it
 abbrev pub seen_value_and_rest : ℤ × Bor (List ℕ) → ℤ × List ℕ
 seen_value_and_rest p = (p.0, (p.1).now)
 
--- what was read, if anything was, and what stands behind it
+-- what was read, if anything was, and what stands after it
 abbrev pub followed_by : {A : Type 0} → List ℕ → Option A → Option (A × List ℕ)
 followed_by rest read = option_map (λ x. (x, rest)) read
 
--- what f makes of the word at the very front of a text, and what stands behind the word
+-- what f makes of the word with which a text begins, and what stands after the word
 abbrev pub word_read : {A : Type 0} → (List ℕ → Option A) → List ℕ → Option (A × List ℕ)
 word_read f bs = followed_by (drop (length (before_first is_blank bs)) bs) (f (before_first is_blank bs))
 
@@ -98,13 +98,13 @@ form_opened (opening.Delete rest) = entity_line (λ r. CarryOut (InWorld (Delete
 form_opened opening.New = CarryOut (InWorld MakeFresh)
 form_opened (opening.Other text) = by_first_word text.now
 
--- what a deed asks of an entity and an id, by the words behind them
+-- what a deed asks of an entity and an id, by the words after them
 abbrev pub deed_words : Deed → EntityRef → IdRef → List (List ℕ) → Form
 deed_words deeds.Set r i = set_line r i
 deed_words deeds.Add r i = nothing_more (CarryOut (InWorld (AddTo r i)))
 deed_words deeds.Remove r i = nothing_more (CarryOut (InWorld (RemoveFrom r i)))
 
--- what a line asks by what stands behind the word of a deed
+-- what a line asks by what stands after the word of a deed
 abbrev pub deed_line : Deed → List ℕ → Form
 deed_line deed rest = fact_line (deed_words deed) rest
 

@@ -14,14 +14,15 @@ kept line = take 4097 line
 abbrev pub HasNoEnd : List ℕ → Type 0
 HasNoEnd bytes = All (λ b. (b == 10) ≡ false) bytes
 
--- the line that was taken last, the front of one whose end hasn't come, the bytes behind it that are in no line yet, and how many bytes were read in all
+-- the line that was taken last, the beginning of one whose end hasn't come, the bytes after it that are in no line yet,
+-- and how many bytes were read in all
 pub record Held : Type 0 where
   pub line : List ℕ
   pub front : List ℕ
   pub unread : List ℕ
   pub read : ℕ
 
--- a line is taken where its end has come, and else all bytes are in the front of one
+-- a line is taken where its end has come, and else all bytes are in the beginning of one
 abbrev pub TakesLine : Bool → Held → Held → Type 0
 TakesLine true old new =
     (rest : List ℕ) × (old.unread ≡ rest ++ 10 ∷ new.unread) × HasNoEnd rest × (kept new.line ≡ kept (old.front ++ rest)) × (new.front ≡ [])
@@ -35,7 +36,7 @@ piece_size = 16384
 abbrev pub part : ℕ → ℕ → List ℕ → List ℕ
 part begin end bytes = take (end - begin) (drop begin bytes)
 
--- places in a piece of bytes, the front of a line, and a count fit
+-- places in a piece of bytes, the beginning of a line, and a count fit
 pub record IsHeld (begin end line_begin line_end : ℕ) (piece front : List ℕ) (read : ℕ) : Type 0 where
   pub whole : length piece ≡ piece_size
   pub ascends : begin ≤ end

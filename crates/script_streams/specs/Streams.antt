@@ -1,4 +1,4 @@
--- What readers and writers tell of the calls so far.
+-- What is known of the calls of readers and writers so far.
 use Rattle.std.specs.Prelude.{◌≡◌, ℕ, ◌+◌, ◌<◌, ◌==◌, ◌⊎◌, min, Bool, true, false, not, ◌&&◌, ◌||◌, List, length, take, Option, Result, Ok, Err, ◌≤◌}
 use Rattle.std.specs.Io.KnownBytes.{Appends}
 use Rattle.script_streams.specs.declared.streams.Stop.{Stop}
@@ -13,13 +13,13 @@ interrupted c = record c { interruptions = min (c.interruptions + 1) 65 }
 abbrev pub answered : Bool → Calls → Calls
 answered fails c = record { interruptions = 0; has_failed = c.has_failed || fails }
 
--- what is told after a read that answered so
+-- what is known after a read that answered so
 abbrev pub after_read : Result ℕ Stop → Calls → Calls
 after_read (Ok n) c = answered false c
 after_read (Err Interrupted) c = interrupted c
 after_read (Err Failed) c = answered true c
 
--- what is told after a write of these bytes that answered so: to take none of them is a failure too
+-- what is known after a write of these bytes that answered so: to take none of them is a failure too
 abbrev pub after_write : Result ℕ Stop → List ℕ → Calls → Calls
 after_write (Ok n) bytes c = answered (n == 0 && not (length bytes == 0)) c
 after_write (Err Interrupted) bytes c = interrupted c
@@ -50,6 +50,6 @@ abbrev pub StaysCalm : {T E : Type 0} → Calls → Result T E → Calls → Typ
 StaysCalm old (Ok answer) new = IsCalm old → IsCalm new
 StaysCalm old (Err fault) new = IsCalm old → IsFaulty new
 
--- what has been taken grew by a front of the bytes
+-- what has been taken grew by a prefix of the bytes
 abbrev pub TakesFront : Option (List ℕ) → Option (List ℕ) → List ℕ → Type 0
 TakesFront old new bytes = (n : ℕ) × (n ≤ length bytes) × Appends old new (take n bytes)

@@ -6,7 +6,7 @@ use Rattle.script_streams.specs.declared.streams.Stop.TheVariants.{Failed}
 use Rattle.script_streams.specs.declared.tapes.Turn.{Turn}
 use Rattle.script_streams.specs.declared.tapes.Turn.TheVariants as turn
 
--- a tape: all its bytes, how many of them were given to reads, the turns to come, and what is told of the calls so far
+-- a tape: all its bytes, how many of them were given to reads, the turns to come, and what is known of the calls so far
 pub record TapeState : Type 0 where
   pub bytes : List ℕ
   pub given : ℕ
@@ -17,7 +17,7 @@ pub record TapeState : Type 0 where
 abbrev pub new_tape : List ℕ → List Turn → TapeState
 new_tape bytes turns = record { bytes = bytes; given = 0; turns = turns; calls = record { interruptions = 0; has_failed = false } }
 
--- the turn that comes next: behind the last, all bytes pass
+-- the turn that comes next: after the last, all bytes pass
 abbrev pub next_turn : List Turn → Turn
 next_turn [] = turn.Pass (2 ^ 64 - 1)
 next_turn (t ∷ ts) = t

@@ -45,7 +45,7 @@ abbrev pub is_filled : {Y : Type 0} → Option (Held Y) → Bool
 is_filled None = false
 is_filled (Some x) = nat_lt 0 (length x.value.table.entities)
 
--- each slot with a table has a mark, and marks tell in which slots are rows
+-- each slot with a table has a mark, and marks say in which slots are rows
 pub record AreMarked {Y : Type 0} (tables : Slab (Held Y)) (filled : List Bool) : Type 0 where
   pub within : (n : ℕ) → IsSome (slots.get tables n) → n < length filled
   pub told : (n : ℕ) → slice_index_or filled n false ≡ is_filled (slots.get tables n)
@@ -55,7 +55,7 @@ unfoldable pub edge_in : List (Id × TableKey) → Id → Option TableKey
 edge_in [] i = None
 edge_in (e ∷ edges) i = cond (id_eq e.0 i) (Some e.1) (edge_in edges i)
 
--- what is told first, or else what is told behind it
+-- the first key if it is there, or else the other
 abbrev pub first_told : Option TableKey → Option TableKey → Option TableKey
 first_told (Some k) o = Some k
 first_told None o = o

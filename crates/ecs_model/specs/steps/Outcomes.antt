@@ -1,4 +1,4 @@
--- What commands of a world are told by: reasons against them, the worlds that they leave and what has changed.
+-- What commands of a world come to: reasons against them, the worlds that they leave and what has changed.
 use Rattle.std.specs.Prelude.{◌≡◌, ℕ, ◌+◌, ◌-◌, ◌^◌, ◌==◌, Bool, true, not, ◌||◌, List, [], ◌∷◌, map, length, ℤ, nat_lt, nat_le, Option, Some, None, is_some, is_none, Result, Ok, Err}
 use Rattle.std.specs.List.{list_any, list_all, find}
 use Rattle.std.specs.Option.{option_map_or}

@@ -27,7 +27,7 @@ pub record SessionState : Type 0 where
   pub world : WorldState
   -- the stored queries, in the order of making
   pub stored : List Stored
-  -- the events that wait, if any do: there may be none to tell
+  -- the events that wait, if any do: there may be none to deliver
   pub waiting : Option (List Event)
 
 -- a session begins with the first world and no stored query
@@ -105,7 +105,7 @@ module _ (s : SessionState) where
   unfoldable pub apply : SessionOrder → Answer
   apply order = if is_some s.waiting then Err EventsPending else free_order order
 
-  -- the events that wait, and the session after they were told
+  -- the events that wait, and the session after they were delivered
   abbrev pub events : List Event
   events = option_map_or (λ es. es) s.waiting []
 

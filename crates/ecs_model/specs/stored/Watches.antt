@@ -1,4 +1,4 @@
--- Stored queries, and what monitors and event observers are told of a command.
+-- Stored queries, and what monitors and event observers are notified of after a command.
 use Rattle.std.specs.Prelude.{ℕ, ◌==◌, Bool, true, false, not, ◌&&◌, List, [], ◌∷◌, ◌++◌, map, filter, take, codes, ℤ, Option, Some, None, Result, Ok}
 use Rattle.std.specs.List.{list_any}
 use Rattle.std.specs.Option.{option_map_or}
@@ -25,7 +25,7 @@ pub record Stored : Type 0 where
   pub kind : StoredKind
   pub query : Query
 
--- whether stored queries of a kind are told of commands: all but kept queries, and these are watches
+-- whether stored queries of a kind are notified of commands: all but kept queries, and these are watches
 abbrev pub is_told : StoredKind → Bool
 is_told Kept = false
 is_told kind = true
@@ -33,9 +33,9 @@ is_told kind = true
 abbrev pub is_watch : Stored → Bool
 is_watch s = is_told s.kind
 
--- what a watch is told
+-- what a watch is notified of
 pub record Event : Type 0 where
-  -- the name of the watch that is told
+  -- the name of the watch that is notified
   pub watch : List ℕ
   pub kind : EventKind
   pub entity : EntityId
@@ -71,7 +71,7 @@ only_term ps = None
 abbrev pub matches_term : Query → Id → Bool
 matches_term q i = option_map_or (λ t. matches [] t.component t.target i) (only_term q.pieces) false
 
--- whether an observer is told of a fact: it matches, and its entity is not passed over
+-- whether an observer is notified of a fact: it matches, and its entity is not passed over
 abbrev pub observes : View → Query → Key → Bool
 observes w q k = matches_term q k.1 && not (is_passed_over q (w.ids k.0))
 
@@ -106,7 +106,7 @@ module _ (before after : WorldState) (changed : Changed) where
   told_of n OnRemove q = map (fact_event n Removed before (λ k. None)) (filter (observes (view_of before) q) changed.went)
   told_of n OnSet q = map (fact_event n Written after (λ k. value_of after k.0 k.1)) (filter (observes (view_of after) q) changed.written)
 
-  -- what a stored query is told of the command
+  -- what a stored query is notified of after the command
   abbrev pub told : Stored → List Event
   told s = told_of s.name s.kind s.query
 
