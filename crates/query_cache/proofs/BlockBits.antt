@@ -46,7 +46,7 @@ pub all_of : (b : Block) (n : ℕ) → n ≡ b.width → keys_up_to b n ≡ keys
 unfolding keys_of
 all_of b n same = ap (keys_up_to b) same
 
--- ---- a bit that is set behind all others
+-- ---- a bit that is set after all others
 module _ (b : Block) (is : IsBlock b) (n : ℕ) (low : b.width ≤ n) (small : n < 64) where
   abbrev set_bits : ℕ
   set_bits = bit_or b.bits (1 * 2 ^ n % 2 ^ 64)

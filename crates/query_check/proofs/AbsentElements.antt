@@ -1,4 +1,4 @@
--- What stands in for an element of a list behind its end.
+-- What stands in for an element of a list after its end.
 use Rattle.std.proofs.Common.{[], false, None}
 use Rattle.query_model.specs.declared.syntax.Role.TheVariants.{And}
 use Rattle.query_model.specs.declared.syntax.Spoken.TheVariants.{Word}

@@ -59,7 +59,7 @@ module _ (pieces : List Piece) (i level : ℕ) (now : List Numbered) (s : IsNumb
   longer : (k : EntryKind) → length (now ++ standing level i k ∷ []) ≡ length now + 1
   longer k = length-append now (standing level i k ∷ [])
 
-  -- it stands behind the others, in front of the rest
+  -- it stands after the others, before the rest
   put : (k : EntryKind) (around : Path) → (now ++ standing level i k ∷ []) ++ places_from (length (now ++ standing level i k ∷ [])) (i + 1) around (drop (i + 1) pieces)
       ≡ now ++ standing (level_of s.around) i k ∷ places_from (length now + 1) (i + 1) around (drop (i + 1) pieces)
   put k around =
@@ -102,7 +102,7 @@ module _ (pieces : List Piece) (i level : ℕ) (now : List Numbered) (s : IsNumb
     left = put kind.Group ((length now + 1) ∷ s.around) ∙ ap (λ x. now ++ places_from (length now) i s.around (x ∷ drop (i + 1) pieces)) (sym e) ∙ one;
   })
 
--- a piece behind others, and the pieces up to it
+-- a piece after others, and the pieces up to it
 pub this_piece : (all front : List Piece) (p : Piece) (ps : List Piece) (k : ℕ) → all ≡ front ++ p ∷ ps → k ≡ length front → get_or all k closing ≡ p
 this_piece all front p ps k a e = ap (λ l. get_or l k closing) a ∙ ap (λ j. get_or (front ++ p ∷ ps) j closing) e ∙ get_or-append_seam front p ps closing
 

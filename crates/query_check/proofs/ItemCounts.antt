@@ -6,7 +6,7 @@ use Rattle.std.proofs.lemmas.List.{drop_all, drop_more}
 use Rattle.query_model.specs.Check.{item_at, new_names}
 use Rattle.query_model.specs.Scope.{Sighting}
 
--- how many are to come before the item at a place, behind the first items
+-- how many are to come before the item at a place, after the first items
 pub record IsCounting {X Y : Type 0} (f : X → List Y) (n : ℕ) (xs : List X) (i left : ℕ) : Type 0 where
   pub same : item_at left (flat_map f (drop i xs)) ≡ item_at n (flat_map f xs)
 

@@ -130,7 +130,7 @@ not_second l m b h = ap (λ t. l == m && t) (sym h) ∙ and-false (l == m)
 pub not_first : (l m : ℕ) (b : Bool) → l ≢ m → (l == m && b) ≡ false
 not_first l m b ne = ap (λ t. t && b) (ne_eqb l m ne)
 
--- each part with the alternatives behind it
+-- each part with the alternatives after it
 pub followed-length : (qs : List (Path × Part)) → length (with_alternatives qs) ≡ length qs
 followed-length [] = refl
 followed-length (q ∷ qs) = ap suc (followed-length qs)
@@ -143,7 +143,7 @@ followed_get (q ∷ qs) (suc i) d h = followed_get qs i d (omega arith)
 parts_behind : (ps : List Part) (i : ℕ) → map (λ q. q.1) (drop i (placed_parts ps)) ≡ drop i ps
 parts_behind ps i = sym (drop-map (λ q. q.1) i (placed_parts ps)) ∙ ap (drop i) (placed-parts 1 [] ps)
 
--- a part with its path and the alternatives behind it, as the code knows them
+-- a part with its path and the alternatives after it, as the code knows them
 pub record IsFollowedAt (ps : List Part) (i : ℕ) (p : Part) (q : PartPlace) (others : List TermSyntax) : Type 0 where
   pub at : IsPartAt ps i p q
   pub within : i < length (with_alternatives (placed_parts ps))
@@ -184,7 +184,7 @@ module _ (ps : List Part) (n : List ℕ) (level : ℕ) where
     pub this_binds_not : (q.level == level && binds n others p) ≡ false → IsBoundBehind ps n level (i + 1)
     this_binds_not e = record { same = split ∙ ap (λ t. t || rest) e }
 
--- the alternatives at the front of parts, by the first part
+-- the alternatives at the beginning of parts, by the first part
 alternatives-end : (p : Part) (ps : List Part) → as_alternative p ≡ None → alternatives (p ∷ ps) ≡ []
 alternatives-end (term Or t) ps e = absurd (let some : Some t ≡ None = e in cc)
 alternatives-end (term And t) ps e = refl
@@ -213,7 +213,7 @@ module _ (ps : List Part) (i : ℕ) (p : Part) (h : i < length ps) (is : get_or 
   pub one_alternative : (t : TermSyntax) → as_alternative p ≡ Some t → alternatives (drop i ps) ≡ t ∷ alternatives (drop (i + 1) ps)
   one_alternative t e = front ∙ alternatives-more p (drop (i + 1) ps) t e
 
--- whether the alternatives at the front of parts all pass a test, which those before a number do
+-- whether the alternatives at the beginning of parts all pass a test, which those before a number do
 pub record AlternativesYet (test : TermSyntax → Bool) (ps : List Part) (i : ℕ) : Type 0 where
   pub same : list_all test (alternatives ps) ≡ list_all test (alternatives (drop i ps))
 
@@ -228,7 +228,7 @@ module _ (test : TermSyntax → Bool) (ps : List Part) (i : ℕ) (p : Part) (h :
     pub one_passes : true ≡ test t → AlternativesYet test ps (i + 1)
     one_passes f = record { same = a.same ∙ ap (list_all test) (one_alternative ps i p h is t e) ∙ ap (λ b. b && list_all test (alternatives (drop (i + 1) ps))) (sym f) }
 
--- what stands behind a number, seen
+-- what stands after a number, seen
 pub behind_seen : {X Y : Type 0} (view : X → Y) (xs : List X) (n : ℕ) → map view (take (length xs - n) (drop n xs)) ≡ drop n (map view xs)
 behind_seen view xs n =
     ap (λ k. map view (take k (drop n xs))) (sym (length-drop n xs)) ∙ ap (map view) (take-length (drop n xs)) ∙ sym (drop-map view n xs)

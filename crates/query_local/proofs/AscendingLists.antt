@@ -9,7 +9,7 @@ use Rattle.query_meaning.proofs.Assignments.{or_left}
 use Rattle.query_meaning.proofs.Lists.{place_of}
 use Rattle.query_meaning.proofs.StepNames.{In-from_contains}
 
--- each number is below those behind it
+-- each number is below those after it
 abbrev Rises : List ℕ → Type 0
 Rises [] = Unit {0}
 Rises (x ∷ xs) = ((e : ℕ) → contains xs e ≡ true → x < e) × Rises xs

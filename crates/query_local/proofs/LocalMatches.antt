@@ -1,4 +1,4 @@
--- Who is `$this` of a row of a local query is told by the ids of each entity alone.
+-- Who is `$this` of a row of a local query depends on the ids of each entity alone.
 use Rattle.std.proofs.Common.{◌≡◌, ℕ, zero, suc, Bool, true, false, cond, inl, inr, List, [], ◌∷◌, length, refl, sym, ap, ◌∙◌, arith}
 use Rattle.std.specs.Prelude.{◌==◌, ◌&&◌, ◌||◌, filter, flat_map, map, not, Contains, Option, Some, None, if◌then◌else◌}
 use Rattle.std.specs.List.{list_any, list_all}

@@ -1,4 +1,4 @@
--- What the touched entities tell, in each two worlds that they stand between.
+-- What the touched entities show, in each two worlds that they stand between.
 use Rattle.std.proofs.Common.{◌≡◌, Bool, true, false, cond, List, [], ◌∷◌, refl, sym, ap, ◌∙◌, subst}
 use Rattle.std.specs.Prelude.{filter, map, IfOk, Result, Ok, Err}
 use Rattle.std.specs.List.Sorted.{IsStrictlyIncreasing}

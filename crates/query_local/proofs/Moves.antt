@@ -1,4 +1,4 @@
--- Who leaves and who enters the rows of a local query is told by the touched entities alone.
+-- Who leaves and who enters the rows of a local query depends on the touched entities alone.
 use Rattle.std.proofs.Common.{◌≡◌, ℕ, Bool, true, false, cond, inl, inr, List, [], ◌∷◌, refl, sym, ap, ◌∙◌}
 use Rattle.std.specs.Prelude.{◌&&◌, filter, map, not, Some, None, if◌then◌else◌}
 use Rattle.std.specs.List.Sorted.{IsStrictlyIncreasing}

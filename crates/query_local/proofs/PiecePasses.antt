@@ -1,4 +1,4 @@
--- A pass over a query's pieces from the left tells whether its level holds.
+-- A pass over a query's pieces from the left decides whether its level holds.
 use Rattle.std.proofs.Common.{◌≡◌, ℕ, suc, zero, Bool, true, false, List, [], ◌∷◌, refl, sym, ap, ◌∙◌}
 use Rattle.std.specs.Prelude.{◌&&◌, not}
 use Rattle.ecs_id.specs.Id.{Id}

@@ -105,7 +105,7 @@ module _ (k : Known) where
 
   -- ---- the references of a query
 
-  -- the query mentions an entity at the index, with the traits that the check was told
+  -- the query mentions an entity at the index, with the traits that the check was given
   abbrev pub IsMentioned : List Mention → ℕ → Type 0
   IsMentioned ms i = (e : EntityId) × In (mention_of k e) ms × (e.index ≡ i)
 

@@ -108,7 +108,7 @@ before_behind n path p b =
 
 -- ---- where parts of a level stand
 
--- a part where it stands, with the alternatives behind it
+-- a part where it stands, with the alternatives after it
 abbrev Standing : Type 0
 Standing = (Path × Part) × List TermSyntax
 
@@ -122,7 +122,7 @@ first_part n path p ps = ((path_in n path p, p), alternatives (map (λ (q : Path
 abbrev Within : (Standing → Bool) → ℕ → Type 0
 Within hit m = (q : Standing) → hit q ≡ true → contains (q.0).0 m ≡ true
 
--- none is behind the level's end
+-- none is after the level's end
 behind_end : (hit : Standing → Bool) (m : ℕ) → Within hit m → (n : ℕ) (path : Path) (ps : List Part) → m < n → Lacks m path → list_any hit (parts_from n path ps) ≡ true → ⊥
 behind_end hit m only n path [] l h e = absurd (let x : false ≡ true = e in cc)
 behind_end hit m only n path (p ∷ ps) l h e =
@@ -419,7 +419,7 @@ module _ (k : Known) (all : List Sighting) (vs : List Variable) where
 
   -- ---- each group's own variables
 
-  -- what is still to come of the variables of levels that begin with a part or behind it
+  -- what is still to come of the variables of levels that begin with a part or after it
   abbrev pub Remain : ℕ → Path → List Part → Type 0
   Remain n path ps = (name : List ℕ) (m : ℕ) → is_among vs (name, m) ≡ true → n ≤ m
       → (list_any (binds_in name m) (parts_from n path ps) ≡ true) × (list_any (mentions all (name, m)) (parts_from n path ps) ≡ true)

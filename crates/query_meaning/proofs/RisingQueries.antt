@@ -71,7 +71,7 @@ module _ (k : Known) (ms : List Mention) where
       rise_goes_up none g = All-nil GoesUp
       rise_goes_up (up w r) g = along_goes_up r g
 
-  -- who is behind a `cascade`
+  -- the entity after a `cascade`
   named_goes_up : (o : Option EntityId) → GoesUp (option_map_or (λ (e : EntityId). e.index) o 0) → All (λ (e : EntityId). GoesUp e.index) (option_to_list o)
   named_goes_up None g = All-nil (λ (e : EntityId). GoesUp e.index)
   named_goes_up (Some e) g = All-cons (λ (e : EntityId). GoesUp e.index) e [] g (All-nil (λ (e : EntityId). GoesUp e.index))

@@ -23,7 +23,7 @@ use Rattle.query_model.specs.declared.query.Term.{Term}
 abbrev HasOneSource : List (ℕ × Id) → Type 0
 HasOneSource fs = (f g : ℕ × Id) → In f fs → In g fs → f.0 ≡ g.0
 
--- its choices are told apart by their ids
+-- its choices differ in their ids
 abbrev HasDistinctIds : List (List Field) → Type 0
 HasDistinctIds xs = (x y : List Field) → In x xs → In y xs → map id_shown x ≡ map id_shown y → x ≡ y
 

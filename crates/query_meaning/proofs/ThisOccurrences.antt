@@ -29,7 +29,7 @@ use Rattle.query_meaning.proofs.LevelHolding.{contains-left, contains-right}
 use Rattle.query_meaning.proofs.OwnOccurrences.{pieces_from}
 use Rattle.query_meaning.proofs.SoundLevels.{occurs_among}
 
--- ---- what the grammar says: alternatives stand behind a term that must match, and what is behind `up` or `cascade` is a word
+-- ---- what the grammar says: alternatives stand after a term that must match, and what is after `up` or `cascade` is a word
 
 -- may says whether an alternative may come first
 abbrev pub are_chained : Bool → List Part → Bool
@@ -256,7 +256,7 @@ module _ (k : Known) (all : List Sighting) (vs : List Variable) (first : number_
             ]
       ]
 
-  -- without alternatives at the front
+  -- without alternatives at the beginning
   no_more : (path : Path) (ps : List Part) (b : Bool) → are_chained false ps ≡ true → (more_this path ps || b) ≡ true → b ≡ true
   no_more path [] b c e = e
   no_more path (term And t ∷ ps) b c e = e

@@ -1,4 +1,4 @@
--- What the grammar relates to tokens, the machine reads: where it reads what stands behind a form, it reads the form.
+-- What the grammar relates to tokens, the machine reads: where it reads what stands after a form, it reads the form.
 use Rattle.std.proofs.Common.{◌≡◌, ℕ, suc, zero, Bool, true, false, List, [], ◌∷◌, Option, Some, None, Result, Ok, refl, sym, ap, subst, ◌∙◌}
 use Rattle.std.specs.Prelude.{codes}
 use Rattle.query_model.specs.declared.Span.{Span}
@@ -59,19 +59,19 @@ module _ (d : ℕ) (role : Role) (ps : List Part) where
         word_goes : {a : Token} {r : Reference} → IsWord a r → (us : List Token) → Reads us d (behind_flags role (applied shows_value c source (Some (flags own (up w (Some r)))))) ps → Reads (a ∷ us) d (behind_up role shows_value c source own w) ps
         word_goes (plain_word free) us h = rw free h
 
-      -- a rise, where its word goes from a state behind it
+      -- a rise, where its word goes from a state after it
       rise_reads : (own : Bool) (s : State) → ((u : Token) (w : RiseWord) → IsRiseWord u w → (us : List Token) → Reads us d (behind_up role shows_value c source own w) ps → Reads (u ∷ us) d s ps)
           → {ts us : List Token} {r : Rise} → IsRise ts us r → Reads us d (behind_flags role (applied shows_value c source (Some (flags own r)))) ps → Reads ts d s ps
       rise_reads own s go (up_alone {u = u} {w = w} {ts = us} i) h = go u w i us (up_goes own w us h)
       rise_reads own s go (up_along {u = u} {a = a} {w = w} {ts = us} i j) h = go u w i (a ∷ us) (word_goes own w j us h)
       rise_reads own s go (up_in_brackets {u = u} {a = a} {w = w} {s1 = p1} {s2 = p2} {ts = us} i j) h = go u w i (token (Punct OpenParen) p1 ∷ a ∷ token (Punct CloseParen) p2 ∷ us) (rw (reads_word j) h)
 
-      -- from a state behind `self`
+      -- from a state after `self`
       behind_bar : (u : Token) (w : RiseWord) → IsRiseWord u w → (us : List Token) → Reads us d (behind_up role shows_value c source true w) ps → Reads (u ∷ us) d (rise_next role shows_value c source) ps
       behind_bar u w word_up us g = g
       behind_bar u w word_cascade us g = g
 
-      -- flags, where `self` and the word of a rise go from a state behind them
+      -- flags, where `self` and the word of a rise go from a state after them
       flags_read : (s : State) → ((p : Span) (us : List Token) → Reads us d (behind_self role shows_value c source) ps → Reads (token (Name (codes "self")) p ∷ us) d s ps)
           → ((u : Token) (w : RiseWord) → IsRiseWord u w → (us : List Token) → Reads us d (behind_up role shows_value c source false w) ps → Reads (u ∷ us) d s ps)
           → {ts us : List Token} {f : Flags} → IsFlags ts us f → Reads us d (behind_flags role (applied shows_value c source (Some f))) ps → Reads ts d s ps
@@ -125,7 +125,7 @@ start_reads d role shows_value a r us qs variable h = h
 start_reads d role shows_value a r us qs star h = h
 start_reads d role shows_value a r us qs underscore h = h
 
--- how a body begins, by its role: behind an access, and as a term
+-- how a body begins, by its role: after an access, and as a term
 pub body_begins : (d : ℕ) (role : Role) (shows_value : Bool) (a : Token) (r : Reference) (us : List Token) (qs : List Part) → IsReference a r → Reads us d (behind_first role shows_value r) qs → Reads (a ∷ us) d (body_next role shows_value) qs
 body_begins d And shows_value a r us qs (word (plain_word free)) h = rw free h
 body_begins d And shows_value a r us qs variable h = h

@@ -18,13 +18,13 @@ abbrev Read : Type 0
 Read = Result (List Part) Span
 
 mutual
-  -- what may stand behind an item, inside so many groups
+  -- what may stand after an item, inside so many groups
   data After : ℕ → List Token → List Part → Type 0 where
     at_comma : {d : ℕ} {s : Span} {ts : List Token} {ps : List Part} → Items d ts ps → After d (token (Punct Comma) s ∷ ts) ps
     at_close : {d : ℕ} {s : Span} {ts : List Token} {ps : List Part} → After d ts ps → After (suc d) (token (Punct CloseBrace) s ∷ ts) (closed ∷ ps)
     at_end : {s : Span} → After zero (token End s ∷ []) []
 
-  -- items, and what stands behind them
+  -- items, and what stands after them
   data Items : ℕ → List Token → List Part → Type 0 where
     outermost : {s : Span} {ts : List Token} {ps : List Part} → IsItems ts (token End s ∷ []) [] ps → Items zero ts ps
     inside : {d : ℕ} {s : Span} {ts us : List Token} {ps qs : List Part} → IsItems ts (token (Punct CloseBrace) s ∷ us) (closed ∷ ps) qs → After d us ps → Items (suc d) ts qs
@@ -34,7 +34,7 @@ data Ended : ℕ → Bool → List Token → List Part → Type 0 where
   no_more : {d : ℕ} {joined : Bool} {ts : List Token} {ps : List Part} → After d ts ps → Ended d joined ts ps
   one_more : {d : ℕ} {s : Span} {ts us : List Token} {ps qs : List Part} → IsChain Or ts us ps qs → After d us ps → Ended d true (token (Punct OrOr) s ∷ ts) qs
 
--- behind a term
+-- after a term
 data Behind : ℕ → Role → TermSyntax → List Token → List Part → Type 0 where
   behind_term : {d : ℕ} {role : Role} {t : TermSyntax} {ts : List Token} {ps : List Part} → Ended d (joins role) ts ps → Behind d role t ts (term role t ∷ ps)
 
@@ -47,7 +47,7 @@ data Target : ℕ → Role → TermSyntax → List Token → List Part → Type 
 data CommaTarget : ℕ → Role → TermSyntax → List Token → List Part → Type 0 where
   comma : {d : ℕ} {role : Role} {t : TermSyntax} {s : Span} {ts : List Token} {ps : List Part} → Target d role t ts ps → CommaTarget d role t (token (Punct Comma) s ∷ ts) ps
 
--- behind a source
+-- after a source
 data Args : ℕ → Role → TermSyntax → List Token → List Part → Type 0 where
   no_target : {d : ℕ} {role : Role} {t : TermSyntax} {ts : List Token} {ps : List Part} → Closing d role t ts ps → Args d role t ts ps
   a_target : {d : ℕ} {role : Role} {t : TermSyntax} {s : Span} {ts : List Token} {ps : List Part} → Target d role t ts ps → Args d role t (token (Punct Comma) s ∷ ts) ps
@@ -55,7 +55,7 @@ data Args : ℕ → Role → TermSyntax → List Token → List Part → Type 0 
 data Along : ℕ → Role → TermSyntax → List Token → List Part → Type 0 where
   along : {d : ℕ} {role : Role} {t : TermSyntax} {s : Span} {ts : List Token} {ps : List Part} → Args d role t ts ps → Along d role t (token (Punct CloseParen) s ∷ ts) ps
 
--- behind an access: a body, perhaps with an operator before it
+-- after an access: a body, perhaps with an operator before it
 data Body : ℕ → Role → Bool → List Token → List Part → Type 0 where
   plain_body : {d : ℕ} {role : Role} {v : Bool} {ts us : List Token} {t : TermSyntax} {ps : List Part} → IsBody v ts us t → Behind d role t us ps → Body d role v ts ps
   operated : {d : ℕ} {role : Role} {v : Bool} {o : Token} {ts us : List Token} {t : TermSyntax} {ps : List Part} → IsOperator o role → IsBody v ts us t → Behind d role t us ps → Body d And v (o ∷ ts) ps
@@ -103,7 +103,7 @@ Tail d (other_side r same) ts ps = Other d r same ts ps
 Tail d (behind_item joined) ts ps = Ended d joined ts ps
 Tail d finished ts ps = (ts ≡ []) × (ps ≡ [])
 
--- an item, and what stands behind it
+-- an item, and what stands after it
 item_then : {d : ℕ} {ts us : List Token} {ps qs : List Part} → IsItem ts us ps qs → After d us ps → Items d ts qs
 item_then i (at_comma (outermost is)) = outermost (item i is)
 item_then i (at_comma (inside is a)) = inside (item i is) a
@@ -128,7 +128,7 @@ items_of : {d : ℕ} {ts : List Token} {ps : List Part} → Term d And ts ps →
 items_of (plain_term i b) = whole_chain i b
 items_of (whole is) = is
 
--- an operator, a term, and what stands behind it
+-- an operator, a term, and what stands after it
 operator_then : {d : ℕ} {o : Token} {role : Role} {ts us : List Token} {t : TermSyntax} {ps : List Part} → IsOperator o role → IsTerm ts us t → Behind d role t us ps → Items d (o ∷ ts) ps
 operator_then bang i (behind_term e) = item_then (operator bang i) (last_ends refl e)
 operator_then question i (behind_term e) = item_then (operator question i) (last_ends refl e)
@@ -160,7 +160,7 @@ args_then : {d : ℕ} {role : Role} {v : Bool} {c : Reference} {s : Span} {ts us
 args_then src (no_target (closing b)) = (_, _, (λ a i. with_args i (source_alone src)), b)
 args_then src (a_target (target j (closing b))) = (_, _, (λ a i. with_args i (source_and_target src j)), b)
 
--- what a part was put in front of
+-- what a part was put before
 emitted_then : (P : List Part → Type 0) (p : Part) (r : Read) (ps : List Part) → before_part p r ≡ Ok ps → ((qs : List Part) → r ≡ Ok qs → P (p ∷ qs)) → P ps
 emitted_then P p (Ok qs) ps h f = let e : p ∷ qs ≡ ps = cc in subst P e (f qs refl)
 emitted_then P p (Err s) ps h f = cc

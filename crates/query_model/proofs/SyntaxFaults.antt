@@ -180,7 +180,7 @@ places (x ∷ xs) (y ∷ ys) us vs t u e =
       ]
     ]
 
--- the front of tokens that begin a query begins one
+-- a prefix of tokens that begin a query begins one
 front_begins : (front rest : List Token) (t : Token) → BeginsQuery (front ++ t ∷ rest) → BeginsQuery (front ++ t ∷ [])
 front_begins front rest t (more, ps, q) =
     let e : (front ++ t ∷ rest) ++ more ≡ (front ++ t ∷ []) ++ (rest ++ more) = append_assoc front (t ∷ rest) more ∙ sym (append_assoc front (t ∷ []) (rest ++ more)) in

@@ -15,7 +15,7 @@ use Rattle.query_model.specs.Scope.{Occurrence, occurrence_of, occurrences_of, s
 use Rattle.query_model.specs.FirstOccurrence.{Ascends, FirstSufficesInTexts, VariablesAscend}
 use Rattle.query_model.proofs.FirstOccurrence.{first_suffices}
 
--- tokens, and references, that begin one behind the other
+-- tokens, and references, that begin one after another
 abbrev Rises : ℕ → List Token → Type 0
 Rises low [] = Unit {0}
 Rises low (t ∷ ts) = (low ≤ (span_of t).start) × Rises (span_of t).start ts
@@ -52,7 +52,7 @@ ordered_append : (low mid : ℕ) (us vs : List Use) → Through low us mid → O
 ordered_append low mid [] vs t o = ordered_from low mid vs t o
 ordered_append low mid (u ∷ us) vs t o = (t.0, ordered_append (start_of u) mid us vs t.1 o)
 
--- the references of a form, and the tokens behind it
+-- the references of a form, and the tokens after it
 record Passes (low : ℕ) (us : List Use) (rest : List Token) : Type 0 where
   high : ℕ
   through : Through low us high
@@ -66,11 +66,11 @@ then_passes low us vs mid rest p next =
     let q = next p.high p.rises in
     record { high = q.high; through = through_append low p.high q.high us vs p.through q.through; rises = q.rises }
 
--- a form, and a token behind it
+-- a form, and a token after it
 closed_behind : (low : ℕ) (us : List Use) (t : Token) (rest : List Token) → Passes low us (t ∷ rest) → Passes low us rest
 closed_behind low us t rest p = record { high = p.high; through = p.through; rises = rises_from p.high (span_of t).start rest p.rises.0 p.rises.1 }
 
--- a token, and a form behind it
+-- a token, and a form after it
 behind_token : (us : List Use) (t : Token) (ts rest : List Token) → (Rises (span_of t).start ts → Passes (span_of t).start us rest) → (low : ℕ) → Rises low (t ∷ ts) → Passes low us rest
 behind_token us t ts rest next low r = passes_from low (span_of t).start us rest r.0 (next r.1)
 
@@ -132,7 +132,7 @@ term_passes low (body_behind_access {us = us} {vs = vs} {t = t} i j) h = then_pa
 abbrev InOrder : ℕ → List Part → Type 0
 InOrder low ps = Ordered low (flat_map uses_of ps)
 
--- parts behind a token
+-- parts after a token
 behind_mark : (t : Token) (ts : List Token) (ps : List Part) → (Rises (span_of t).start ts → InOrder (span_of t).start ps) → (high : ℕ) → Rises high (t ∷ ts) → InOrder high ps
 behind_mark t ts ps next high k = ordered_from high (span_of t).start (flat_map uses_of ps) k.0 (next k.1)
 

@@ -38,7 +38,7 @@ mark_begins : (m : Mark) → Begins (spelling m)
 mark_begins Comma = record { first = 44; others = []; whole = refl; no_letter = refl; no_dollar = refl; no_blank = refl }
 mark_begins m = record { first = _; others = _; whole = refl; no_letter = refl; no_dollar = refl; no_blank = refl }
 
--- a mark is told by its spelling
+-- a mark is known by its spelling
 mark_is_found : (m : Mark) → mark_at (spelling m) ≡ Some (Punct m)
 mark_is_found Comma = refl
 mark_is_found m = refl
@@ -109,7 +109,7 @@ letter_begins_no_mark b bs letter (m, e) = let g = mark_begins m in let same : g
 dollar_begins_no_mark : (bs : List ℕ) → AreMark 36 bs → ⊥
 dollar_begins_no_mark bs (m, e) = let g = mark_begins m in let same : g.first ≡ 36 = (let h : g.first ∷ g.others ≡ 36 ∷ bs = sym g.whole ∙ e in cc) in false≢true (sym g.no_dollar ∙ ap (λ b. nat_eq b 36) same)
 
--- a sign is told by its spelling
+-- a sign is known by its spelling
 one_sign : (s t : Sign) → is_sign s ≡ true → is_sign t ≡ true → spelled s ≡ spelled t → s ≡ t
 one_sign (Name n) (Name m) e f h = ap Name h
 one_sign (Name []) t e f h = cc
@@ -128,7 +128,7 @@ one_sign (Punct m) (Punct n) e f h = ap Punct (one_mark m n h)
 one_sign (Punct m) End e f h = cc
 one_sign End t e f h = cc
 
--- the longest token at the front
+-- the longest token at the beginning
 name_is_longest : (b : ℕ) (bs : List ℕ) → is_letter b ≡ true → IsLongest (prefix_len is_name_byte bs + 1) (b ∷ bs)
 name_is_longest b bs letter zero more fits t = absurd (omega arith)
 name_is_longest b bs letter (suc k) more fits t =
@@ -137,7 +137,7 @@ name_is_longest b bs letter (suc k) more fits t =
       | inr w ↦ elim w [ inl variable ↦ letter_is_no_dollar b letter variable.0 | inr mark ↦ letter_begins_no_mark b (take k bs) letter mark ]
     ]
 
--- behind a `$`
+-- after a `$`
 variable_is_longest : (c : ℕ) (cs : List ℕ) → is_letter c ≡ true → IsLongest (prefix_len is_word_byte cs + 2) (36 ∷ c ∷ cs)
 variable_is_longest c cs letter zero more fits t = absurd (omega arith)
 variable_is_longest c cs letter (suc zero) more fits t = absurd (omega arith)
@@ -170,7 +170,7 @@ dollar_alone bs none (suc k) more fits t =
         let letter : is_letter x ≡ true = (and_parts (is_letter x) (list_all is_word_byte (take k xs)) f).0 in
         let g = rw letter at e in cc
 
--- the marks at the front of a text
+-- the marks at the beginning of a text
 
 abbrev pub at_front : List ℕ → Mark → Bool
 at_front text m = starts_with nat_eq text (spelling m)
@@ -259,7 +259,7 @@ longer_mark m CloseBracket c rest e = absurd (too_short m c rest 1 (ap length e)
 longer_mark m Star c rest e = absurd (too_short m c rest 1 (ap length e) refl)
 longer_mark m Underscore c rest e = absurd (too_short m c rest 1 (ap length e) refl)
 
--- a mark that some front of the text spells stands at its front
+-- a mark that some prefix of the text spells stands at its beginning
 mark_of_front : (b : ℕ) (bs : List ℕ) (k : ℕ) (n : Mark) → suc k ≤ length (b ∷ bs) → spelling n ≡ b ∷ take k bs → at_front (b ∷ bs) n ≡ true
 mark_of_front b bs k n fits e =
     let l : length (spelling n) ≡ suc k = ap length e ∙ omega (arith, length-take k bs) in
@@ -372,7 +372,7 @@ stuck_has_no_token (b ∷ bs) left s h is e =
 sign_is_no_blank : (s : Sign) (left : List ℕ) → is_sign s ≡ true → BeginsNoBlank (spelled s ++ left)
 sign_is_no_blank s left is = let w = sign_begins_with_no_blank s left is in subst BeginsNoBlank (sym w.2) w.3
 
--- the tokens at the front of a text, as far as they go, and its rest
+-- the tokens at the beginning of a text, as far as they go, and its rest
 
 one_front_of_tokens : (ts us : List Token) (at : ℕ) (text r q : List ℕ) → Spells at text ts r → Spells at text us q → IsStuck r → IsStuck q → (ts ≡ us) × (r ≡ q)
 one_front_of_tokens [] [] at text r q (xs, e, all_x) (ys, f, all_y) r_stuck q_stuck =
@@ -401,7 +401,7 @@ pub one_spelling : OneSpelling
 one_spelling text ts us (xs, spells, e) (ys, spells', f) =
     e ∙ ap (λ zs. zs ++ end_of text ∷ []) (one_front_of_tokens xs ys 0 text [] [] spells spells' tt tt).0 ∙ sym f
 
--- what the function finds at the front of a text
+-- what the function finds at the beginning of a text
 
 abbrev SignFound : List ℕ → Option Sign → Type 0
 SignFound text None = IsLongest 0 text
@@ -482,7 +482,7 @@ IsRead at to text (Err span) =
     × (span ≡ record { start = to - suc (length rest); end = to - suc (length rest) + char_len b })
 
 module _ (at to : ℕ) (text blanks : List ℕ) (all_blank : AreBlank blanks) (ends : at + length text ≡ to) where
-  -- a token in front of what is read behind it
+  -- a token before what is read after it
   read_more : (s : Sign) (left : List ℕ) (r : Result (List Token) Span) → is_sign s ≡ true → text ≡ blanks ++ (spelled s ++ left) → IsLongest (length (spelled s)) (spelled s ++ left) → IsRead (at + length blanks + length (spelled s)) to left r → IsRead at to text (before_rest (token s (record { start = at + length blanks; end = at + length blanks + length (spelled s) })) r)
   read_more s left (Ok ts) is e longest (us, spells, f) =
       let t : Token = token s (record { start = at + length blanks; end = at + length blanks + length (spelled s) }) in

@@ -27,7 +27,7 @@ use Rattle.query_parser.specs.Token.{AreSlicesOf, Ascend, seen, sign_of, text_le
 abbrev Read : Type 0
 Read = Result (List tokens.Token) Span
 
--- tokens in front of what is read behind them
+-- tokens before what is read after them
 abbrev pub behind : List tokens.Token → Read → Read
 behind ts (Ok us) = Ok (ts ++ us)
 behind ts (Err span) = Err span
@@ -35,7 +35,7 @@ behind ts (Err span) = Err span
 abbrev pub IsNoEnd : tokens.Token → Type 0
 IsNoEnd t = (u : Span) → t ≢ token tokens.End u
 
--- what is read from a place on stands behind the tokens before it
+-- what is read from a place on stands after the tokens before it
 pub record HasRead (text : List ℕ) (items : List Token) (at : ℕ) : Type 0 where
   pub left : ℕ
   pub enough : length text < at + left
@@ -89,12 +89,12 @@ module _ (next : ℕ → List ℕ → Read) where
       let P : tokens.Token → Type 0 = λ u. token_then next start rest (Some s) ≡ before_rest u (next (span_of u).end (drop ((span_of u).end - start) rest)) in
       subst P d (rw (add-sub_cancel_left start (length (spelled s))) refl)
 
-  -- a token that is not the end stands in front of what is read of the rest
+  -- a token that is not the end stands before what is read of the rest
   tokens_then_more : (start : ℕ) (rest : List ℕ) (t : tokens.Token) → token_of start rest ≡ Ok t → IsNoEnd t → tokens_then next start rest ≡ before_rest t (next (span_of t).end (drop ((span_of t).end - start) rest))
   tokens_then_more start [] t e ne = absurd (ne (record { start = start; end = start }) cc)
   tokens_then_more start (b ∷ bs) t e ne = token_then_more start (b ∷ bs) (sign_at (b ∷ bs)) t e
 
-  -- behind the end nothing is read
+  -- after the end nothing is read
   tokens_then_end : (start : ℕ) (rest : List ℕ) (u : Span) → token_of start rest ≡ Ok (token tokens.End u) → tokens_then next start rest ≡ Ok (token tokens.End u ∷ [])
   tokens_then_end start [] u e = let d : token tokens.End (record { start = start; end = start }) ≡ token tokens.End u = cc in ap (λ t. Ok (t ∷ [])) d
   tokens_then_end start (b ∷ bs) u e = absurd (placed_is_no_end start (b ∷ bs) (sign_at (b ∷ bs)) (sign_is_no_end b bs) u e)
@@ -146,7 +146,7 @@ unfolding tokens_from
 rest_read text at n = let blanks : ℕ = prefix_len is_query_blank (drop at text) in ap (λ rest. tokens_then (tokens_from n) (at + blanks) rest) (drop-drop blanks at text)
 
 module _ (text : List ℕ) (items : List Token) (at : ℕ) where
-  -- the tokens of the text are those so far, and those that stand behind
+  -- the tokens of the text are those so far, and those that follow
   rest_is_left : HasRead text items at → (n : ℕ) × (length text < at + suc n) × (tokens_of text ≡ behind (map seen items) (tokens_from (suc n) at (drop at text)))
   rest_is_left so_far = left_is so_far.left so_far.enough so_far.reads
     where
@@ -155,14 +155,14 @@ module _ (text : List ℕ) (items : List Token) (at : ℕ) where
       left_is (suc n) enough reads = (n, enough, reads)
 
   module _ (so_far : HasRead text items at) where
-    -- a fault behind the tokens so far is the text's
+    -- a fault after the tokens so far is the text's
     pub fault_is_of_text : (kind : FaultKind) (f : Fault) → as_fault kind (next_of text at) ≡ Err f → as_fault kind (tokens_of text) ≡ Err f
     fault_is_of_text kind f e =
         let l = rest_is_left so_far in
         let start : ℕ = at + prefix_len is_query_blank (drop at text) in
         rw (l.2, rest_read text at l.0) (tokens_then_fault (tokens_from l.0) kind (map seen items) start (drop start text) f e)
 
-    -- a refusal behind the tokens so far is the lexer's
+    -- a refusal after the tokens so far is the lexer's
     pub refusal_is_of_text : {T : Type 0} (view : T → List tokens.Token) (kind : FaultKind) (q : QueryFault) → Answers kind seen (Err q) (next_of text at) → Answers kind view (Err q) (tokens_of text)
     refusal_is_of_text view kind (QueryFault.Fault f) e = fault_is_of_text kind f e
     refusal_is_of_text view kind QueryFault.Memory e = tt

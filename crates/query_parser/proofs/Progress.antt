@@ -17,7 +17,7 @@ use Rattle.query_parser.specs.declared.machine.Nesting.{Nesting}
 use Rattle.query_model.specs.Seen.{seen_part}
 use Rattle.query_parser.specs.Steps.{seen_state, seen_step, completed, nested}
 
--- what is read from a place on stands behind the parts before it
+-- what is read from a place on stands after the parts before it
 pub record HasParsed (tokens : List code_token.Token) (parts : List code_part.Part) (at depth : ℕ) (state : code_state.State) (draft : code_draft.Draft) : Type 0 where
   pub shallow : depth ≤ at
   pub reads : parts_of (map seen tokens) ≡ before_parts (map seen_part parts) (run (drop at (map seen tokens)) depth (seen_state draft state))
@@ -39,7 +39,7 @@ nested_little d Nesting.Same = omega arith
 nested_little d Nesting.Opens = omega arith
 nested_little d Nesting.Closes = omega arith
 
--- what a call gave behind another that did not fail
+-- what a call gave after another that did not fail
 pub if_both : {P T U E F : Type 0} (r : Result T E) (q : Result U F) (u : U) → is_ok q ≡ is_ok r → q ≡ Ok u → IfOk r (λ x. P) → P
 if_both (Ok x) q u same was p = p
 if_both (Err x) q u same was p = absurd (true≢false (sym (ap is_ok was) ∙ same))
@@ -70,7 +70,7 @@ module _ (tokens : List code_token.Token) (parts : List code_part.Part) (at dept
               ∙ before_more (map seen_part parts) (completed after go.part go.nesting) rest ∙ ap (λ ps. before_parts ps rest) (sym is);
         }
 
-  -- behind the last token
+  -- after the last token
   module _ (ends : length tokens ≤ at) where
     all_read : parts_of (map seen tokens) ≡ before_parts (map seen_part parts) (machine.stopped (seen_state draft state))
     all_read = so_far.reads ∙ ap (λ ts. before_parts (map seen_part parts) (run ts depth (seen_state draft state))) (drop_all at (map seen tokens) (omega (arith, length-map tokens seen)))

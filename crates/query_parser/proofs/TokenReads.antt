@@ -26,7 +26,7 @@ name_is_ascii xs k d h =
     let g : get_or (take n xs) k d ≡ get_or xs k d = get_or-take n xs k d l in
     rw g (name_byte_is_ascii _ e)
 
--- a text may be cut behind ASCII bytes
+-- a text may be cut after ASCII bytes
 pub cut_behind_ascii : (bs : List ℕ) (start len : ℕ) → IsUtf8 bs → 0 < len → start + len ≤ length bs → All (λ byte. byte < 128) (take len (drop start bs)) → IsCharBoundary bs (start + len)
 cut_behind_ascii bs start len u some fits ascii =
     let l : len - 1 < len = omega arith in
@@ -37,7 +37,7 @@ cut_behind_ascii bs start len u some fits ascii =
     let b : IsCharBoundary bs (start + (len - 1) + 1) = IsCharBoundary-after_ascii bs (start + (len - 1)) u (omega arith) (omega arith) in
     subst (λ (i : ℕ). IsCharBoundary bs i) m b
 
--- where a sign is spelled at the front, it is the next token
+-- where a sign is spelled at the beginning, it is the next token
 pub token_of_sign : (at : ℕ) (rest : List ℕ) (s : Sign) → 0 < length rest → sign_at rest ≡ Some s → token_of at rest ≡ Ok (token s (record { start = at; end = at + length (spelled s) }))
 token_of_sign at [] s l e = absurd (omega arith)
 token_of_sign at (b ∷ bs) s l e = ap (placed at (b ∷ bs)) e
@@ -71,7 +71,7 @@ word_is_ascii xs k d h =
     let g : get_or (take n xs) k d ≡ get_or xs k d = get_or-take n xs k d l in
     rw g (word_byte_is_ascii _ e)
 
--- what begins with `$` is the variable behind that
+-- what begins with `$` is the variable after that
 pub variable_is_sign : (xs : List ℕ) (n len : ℕ) → 0 < length xs → get_or xs 0 0 ≡ 36 → len ≡ 1 + n → variable_at (drop 1 xs) ≡ Some (Variable (take n (drop 1 xs))) → sign_at xs ≡ Some (Variable (drop 1 (take len xs)))
 variable_is_sign [] n len l e m v = absurd (omega arith)
 variable_is_sign (b ∷ bs) n len l e m v =

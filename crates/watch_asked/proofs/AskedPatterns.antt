@@ -1,4 +1,4 @@
--- What is kept of what a query asks tells what is asked of the query.
+-- What is kept of what a query asks decides what is asked of the query.
 use Rattle.std.proofs.Common.{◌≡◌, ℕ, ◌+◌, ◌<◌, ◌≤◌, Bool, true, false, List, [], ◌∷◌, ◌++◌, length, map, refl, sym, take, ap, arith, ◌∙◌}
 use Rattle.std.specs.Prelude.{◌==◌, ◌&&◌, ◌||◌, not, flat_map, Option, Some, None, is_none, is_some, if◌then◌else◌}
 use Rattle.std.specs.List.{list_all, list_any, range_with_len}

@@ -1,4 +1,4 @@
--- What is kept of what a query asks tells as the entities of which variables those count who may stand for them.
+-- What is kept of what a query asks decides as the entities of which variables those count who may stand for them.
 use Rattle.std.proofs.Common.{◌≡◌, ℕ, true, false, inl, inr, List, sym, ap, ◌∙◌}
 use Rattle.std.specs.Prelude.{◌==◌, ◌||◌, not}
 use Rattle.std.proofs.lemmas.Bool.{cases_Bool, eqb-true}

@@ -1,4 +1,4 @@
--- What is read of a query's pieces from the left tells whether its variables are idle.
+-- What is read of a query's pieces from the left decides whether its variables are idle.
 use Rattle.std.proofs.Common.{◌≡◌, ℕ, zero, Bool, true, false, List, [], ◌∷◌, length, refl, ap, ◌∙◌}
 use Rattle.std.specs.Prelude.{◌==◌, ◌&&◌, ◌||◌, not}
 use Rattle.std.specs.List.{list_all, range_with_len}

@@ -16,7 +16,7 @@ use Rattle.query_meaning.proofs.AskedQueries.{asked, checked_faultless}
 use Rattle.watch_concerns.specs.ToldLaws.{QueriesMentionOnce}
 use Rattle.watch_concerns.specs.Mentions.{mentions_index, times_in}
 
--- how many pass, of one more in front
+-- how many pass, of one more before the others
 pub count_by-cons : {A : Type 0} (p : A → Bool) (x : A) (xs : List A) → count_by p (x ∷ xs) ≡ cond (p x) 1 0 + count_by p xs
 count_by-cons p x xs = sum_by-cons (λ y. cond (p y) 1 0) x xs
 

@@ -1,4 +1,4 @@
--- What stored queries are told of a command, by the world after it and what has changed.
+-- What stored queries are notified of after a command, by the world after it and what has changed.
 use Rattle.std.specs.Prelude.{◌≡◌, ℕ, ◌==◌, Bool, true, false, not, List, [], ◌∷◌, ◌++◌, map, filter, codes, Option, Some, None, Ok, option_map, cond, is_some, unwrap_or}
 use Rattle.std.specs.List.{Contains, list_all, list_any}
 use Rattle.std.specs.Option.{option_map_or}
@@ -47,7 +47,7 @@ module _ (v : WorldState) (changed : Changed) (i g : ℕ) (name : Option (List �
   abbrev name_or_handle : List ℕ
   name_or_handle = option_map_or (λ n. n) name (handle_text entity)
 
-  -- it was told by the generation and the name that it had
+  -- in events it has the generation and the name that it had
   record WasTold : Type 0 where
     told_entity : entity_before v changed i ≡ entity
     told_text : entity_text_before v changed i ≡ name_or_handle
@@ -76,7 +76,7 @@ module _ (w v : WorldState) (c : Command) (changed : Changed) (h : IsWellFormed 
   abbrev since : Changed
   since = differences w v (written_by c)
 
-  -- each who lived before was told as it is in the world before
+  -- each who lived before is in events as it is in the world before
   was_told : (i g : ℕ) → value_at nat_cmp w.live i ≡ Some g → WasTold v since i g (name_of w i)
   was_told i g live = by (is_live v i) refl
     where

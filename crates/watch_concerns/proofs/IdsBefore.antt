@@ -52,6 +52,6 @@ module _ (w v : WorldState) (written : List Key) where
   pub is_cut_before_is : (q : Query) (tag e : ℕ) → is_cut_before v (differences w v written) q tag e ≡ is_cut q ((view_of w).ids e) tag
   is_cut_before_is q tag e = ap (λ b. b && not (level_mentions tag (top q))) (held_before_is e (plain tag) ∙ sym (is_held-holds w e (plain tag)))
 
-  -- and observers were told of facts
+  -- and observers were notified of facts
   pub observed_before_is : (q : Query) (k : Key) → observed_before v (differences w v written) q k ≡ observes (view_of w) q k
   observed_before_is q k = λ j. matches_term q k.1 && not (is_cut_before_is q prefab k.0 j || is_cut_before_is q disabled k.0 j)

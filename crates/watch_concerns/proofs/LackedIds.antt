@@ -62,7 +62,7 @@ module _ (w : View) (a : Assignment) (e : ℕ) (this : at a 0 ≡ Some e) where
   level_fails (opening from_term own ∷ ps) lack holds = false≢true lack
   level_fails (closing ∷ ps) lack holds = false≢true lack
 
--- whether ids lack what is asked is told by those of them that concern the query
+-- whether ids lack what is asked depends on those of them that concern the query
 pieces_lack_alike : (q : Query) (is js : List Id) → filter (concerns q) is ≡ filter (concerns q) js → (ps : List Piece) → OfEachPiece (Covers (concerns q)) ps → lacks_from is ps ≡ lacks_from js ps
 pieces_lack_alike q is js same [] covers = refl
 pieces_lack_alike q is js same (item x ∷ ps) covers =

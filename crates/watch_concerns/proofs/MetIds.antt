@@ -88,7 +88,7 @@ module _ (w : View) (e : ℕ) where
   abbrev FailsFor : Level → Type 0
   FailsFor l = (a : Assignment) → at a 0 ≡ Some e → Holds w l a → ⊥
 
-  -- what is told from the left, where a group is open or none is
+  -- what is known from the left, where a group is open or none is
   abbrev Told : Bool → Bool → List Piece → Type 0
   Told false failed ps = KeepsThis (joined_levels (open_levels ps)) → HoldsFor (joined_levels (open_levels ps))
   Told true failed ps = KeepsThis (joined_levels (other_levels (open_levels ps))) → ((failed ≡ true) ⊎ FailsFor (first_level (open_levels ps))) × HoldsFor (joined_levels (other_levels (open_levels ps)))

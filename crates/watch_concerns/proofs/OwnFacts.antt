@@ -38,7 +38,7 @@ use Rattle.watch_concerns.proofs.ThisAssignments.{KeepsThis, asked_of_this, soun
 use Rattle.watch_concerns.proofs.AnchoredRows.{any_row, first_lives, lives_too}
 use Rattle.watch_concerns.proofs.WiderTests.{any_same, filter_same, maps_same}
 
--- ---- chains, where the same comes next from their start and from all behind it
+-- ---- chains, where the same comes next from their start and from all after it
 
 module _ (next next' : ℕ → List ℕ) (e : ℕ) (here : next e ≡ next' e) (above : (x : ℕ) → HasChain next' e x → next x ≡ next' x) where
   reached_too : (c : ℕ) → Contains (next' e) c → {y : ℕ} → Reached next c y → Reached next' c y

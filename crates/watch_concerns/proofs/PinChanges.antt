@@ -37,7 +37,7 @@ some_counted p (x ∷ xs) h = by (p x) refl h (some_counted p xs)
     by true e h rest = omega (arith, count_by-cons p x xs, ap (λ b. cond b 1 0 + count_by p xs) e)
     by false e h rest = omega (arith, count_by-cons p x xs, rest h)
 
--- the entity at an index that the first mentions is mentioned by none behind it, and an index that is mentioned once in all, no more than once behind the first
+-- the entity at an index that the first mentions is mentioned by none after it, and an index that is mentioned once in all, no more than once after the first
 module _ (i : ℕ) (m : Mention) (ms : List Mention) (once : times_in i (m ∷ ms) ≤ 1) where
   rest_once : times_in i ms ≤ 1
   rest_once = omega (arith, once, count_by-cons (λ (x : Mention). (x.entity).index == i) m ms)

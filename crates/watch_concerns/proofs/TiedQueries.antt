@@ -89,7 +89,7 @@ module _ (q : Query) {m n : ℕ} (w v : View) (links : AreLinks m w.entities w.i
   abbrev pub Knows : Assignment → ℕ → Type 0
   Knows a u = needs_no_tie (terms q) u ≡ false → (x : ℕ) → at a u ≡ Some x → IsKnown u x
 
-  -- ---- a term that asks somebody else
+  -- ---- a term that asks another entity
 
   module _ (a : Assignment) (t : Term) (among : Contains (terms q) t) (u : ℕ) (source : t.source ≡ Var u) where
     asked_of_it : (i : Id) → term_concerns i t ≡ true → asks_for (terms q) u i ≡ true
@@ -234,7 +234,7 @@ module _ (q : Query) {m n : ℕ} (w v : View) (links : AreLinks m w.entities w.i
 
     -- ---- a level
 
-    -- what holds in one of the views tells of the variables that are tied in it
+    -- what holds in one of the views says of the variables that are tied in it
     known_by : (z : View) → filter (concerns q) (z.ids e) ≡ filter (concerns q) (v.ids e) → (a : Assignment) → at a 0 ≡ Some e → (us : List ℕ) (l : Level) → OfEach (AreAmong (terms q)) l
         → list_all (λ u. ties (terms q) u l) us ≡ true → Holds z l a → KnowsAll us a
     known_by z same a this us l among tied holds u in_scope needs x is =

@@ -1,4 +1,4 @@
--- An id that concerns no others is asked of no variable's entity, so variables alone tell whether its facts are idle.
+-- An id that concerns no others is asked of no variable's entity, so variables alone decide whether its facts are idle.
 use Rattle.std.proofs.Common.{◌≡◌, ℕ, Bool, true, false, List, ap, ◌∙◌}
 use Rattle.std.specs.Prelude.{◌==◌, ◌&&◌, not}
 use Rattle.std.specs.List.{list_any}

@@ -1,4 +1,4 @@
--- What passes a test, what follows from a list and whether some of it passes is told by those of its members that pass a wider test.
+-- What passes a test, what follows from a list and whether some of it passes depends on those of its members that pass a wider test.
 use Rattle.std.proofs.Common.{◌≡◌, Bool, true, false, cond, inl, inr, List, [], ◌∷◌, refl, sym, ap, ◌∙◌}
 use Rattle.std.specs.Prelude.{◌||◌, filter, filter_map, Option, None}
 use Rattle.std.specs.List.{list_any, cons_option}

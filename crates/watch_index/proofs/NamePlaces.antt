@@ -38,7 +38,7 @@ module _ {K V : Type 0} (test : K → Bool) where
       by true rest = refl
       by false rest = rest
 
-  -- lists in which the same is found still are, with the same behind them
+  -- lists in which the same is found still are, with the same after them
   pub same_behind : (xs ys us vs : List (K × V)) → lookup test xs ≡ lookup test ys → lookup test us ≡ lookup test vs → lookup test (xs ++ us) ≡ lookup test (ys ++ vs)
   same_behind xs ys us vs e f = look_behind xs us ∙ (λ i. or_else (e i) (f i)) ∙ sym (look_behind ys vs)
 
@@ -57,7 +57,7 @@ module _ {A : Type 0} where
   pub one_name : (m : List ℕ) (a b : String A) (v : ℕ) → string_bytes a ≡ string_bytes b → lookup (is_key m) ((a, v) ∷ []) ≡ lookup (is_key m) ((b, v) ∷ [])
   one_name m a b v e = ap (λ n. cond (bytes_eq m n) (Some v) None) e
 
-  -- a name tells whether a key is its own
+  -- a name decides whether a key is its own
   pub names_test : (n : List ℕ) → IsKeyTest string_eq (is_key {A = A} n)
   names_test n x y e = ap (λ m. bytes_eq m (string_bytes y)) (name_is n x e)
 
@@ -238,11 +238,11 @@ module _ {A X V : Type 0} (name : X → String A) (number : X → ℕ) (value : 
         at_last : (k : ℕ) → k < length xs → length xs - 1 ≤ k → k ≡ length xs - 1
         at_last k a b = omega (arith, a, b)
 
-    -- a search that finds a number tells where a value has it
+    -- a search that finds a number says where a value has it
     pub found_at : (num i : ℕ) → IsBinarySearchResult (λ x. nat_cmp (number x) num) xs (Ok i) → (d : X) → number (get_or xs i d) ≡ num
     found_at num i search d = nat_cmp-IsAntisymmetric (number (get_or xs i d)) num (search d)
 
-    -- and one that finds none tells that none has it
+    -- and one that finds none says that none has it
     pub none_has : (num i : ℕ) → i ≤ length xs → IsBinarySearchResult (λ x. nat_cmp (number x) num) xs (Err i) → (k : ℕ) (d : X) → k < length xs → number (get_or xs k d) ≡ num → ⊥
     none_has num i l search k d lk same =
         let point = search (searchable_from_sorted nat_cmp_total number xs num in_order) in

@@ -102,7 +102,7 @@ pub ascending : (ns : List ℕ) → AllPairs (λ a b. a < b) ns → IsStrictlyIn
 ascending ns pairs k l = pairs k (k + 1) 0 (omega arith) l
 
 module _ {X : Type 0} (number : X → ℕ) (xs : List X) (ns : List ℕ) where
-  -- at this place stands a number below the j-th and those behind it
+  -- at this place stands a number below the j-th and those after it
   abbrev pub IsBelow : ℕ → ℕ → Type 0
   IsBelow j place = (m e : ℕ) (d : X) → j ≤ m → m < length ns → number (get_or xs place d) < get_or ns m e
 
