@@ -133,7 +133,7 @@ module _ (was is : Entered) (key : TableKey) where
       by true e g = absurd (true≢false (sym g ∙ (λ i. cond (e i) false (is_matched was p k))))
       by false e g = marked p k (sym (λ i. cond (e i) false (is_matched was p k)) ∙ g)
 
--- ---- what `tables_of` tells
+-- ---- what `tables_of` answers
 matched : (p : Pattern) (o : Option (List Id)) → matched_in p o ≡ true → (ids : List Id) × (o ≡ Some ids) × (list_any (matches p) ids ≡ true)
 matched p None h = absurd (true≢false (sym h))
 matched p (Some ids) h = (ids, refl, h)

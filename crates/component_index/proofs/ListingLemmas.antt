@@ -85,7 +85,7 @@ lists_entered {S} was lists right tables view p k = by (get pattern_eq lists p) 
         let holds = in_list was lists right tables view p list is list refl k in
         rw (read_of lists p (Some list) is) (λ h. holds.0 (same.0 h), λ h. same.1 (holds.1 h))
 
--- ---- a list that is told by marks
+-- ---- a list that is given by marks
 none_had : (list : List TableKey) → ((k : TableKey) → has list k ≡ true → ⊥) → list ≡ []
 none_had [] f = refl
 none_had (x ∷ list) f = absurd (f x (λ i. table_eq_equiv.refl x i || list_any (table_eq x) list))

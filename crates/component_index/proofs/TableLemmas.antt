@@ -202,7 +202,7 @@ module _ (ks new : List TableKey) (once : IsDistinct table_eq ks) (key : TableKe
   pub once-taken : IsDistinct table_eq new
   once-taken = subst (IsDistinct table_eq) (sym left) (once-swap_remove ks once key i is x taken)
 
--- ---- what calls tell
+-- ---- what calls answer
 pub once_inserted : {E : Type 0} (r : Result (Unit {0}) E) (key : TableKey) (old new : List TableKey) → OnOk r (new ≡ insert_key table_eq old key) → OnErr r (new ≡ old) → IsDistinct table_eq old → IsDistinct table_eq new
 once_inserted (Ok u) key old new e h d = subst (IsDistinct table_eq) (sym e) (distinct_key old key d)
 once_inserted (Err x) key old new e h d = subst (IsDistinct table_eq) (sym h) d

@@ -1,4 +1,4 @@
--- What each call asks of the index and the store, and what it tells of the holdings.
+-- What each call asks of the index and the store, and what it says of the holdings.
 use Rattle.std.proofs.Common.{◌≡◌, ◌≢◌, ℕ, Bool, true, false, cond, not, ◌&&◌, ◌==◌, [], length, List, replicate, Option, Some, None, option_map, unwrap_or, is_some, refl, sym, ap, subst, ◌∙◌, true≢false}
 use Rattle.std.specs.List.{filter}
 use Rattle.std.specs.Option.{IsSome, option_eq}

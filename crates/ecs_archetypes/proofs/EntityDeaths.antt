@@ -103,7 +103,7 @@ module _ (w w' : Entities) (s s' : Store) (sound : IsSound w s) (e : EntityId) (
   pub alike_left : HoldAlike (meaning w' s') (without_entity (meaning w s) e.index)
   alike_left = record { live = live; deletions = deletions; cells = cells_left }
 
--- what the index says after the deletion, and after the place of the row that fills the gap was told
+-- what the index says after the deletion, and after the place of the row that fills the gap was written
 module _ (w : Entities) (s : Store) (sound : IsSound w s) (e : EntityId) (p : Place) (at : place_of w e ≡ Some p) (w1 : Entities) (deleted : w1 ≡ index.without_entity w e.index) where
   alive : is_alive w e ≡ true
   alive = placed_alive w e p at

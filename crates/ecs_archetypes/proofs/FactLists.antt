@@ -50,7 +50,7 @@ put_front : (c : Id × ℕ) (m : Shape) → below_all id_cmp c.0 m ≡ true → 
 put_front c [] h = refl
 put_front c (e ∷ m) h = ap (λ r. by_order r (c ∷ e ∷ m) ((e.0, c.1) ∷ m) (e ∷ put_size m c)) (lt_less (id_cmp c.0 e.0) (both_true (is_lt (id_cmp c.0 e.0)) (below_all id_cmp c.0 m) h).0)
 
--- an id below all that come stays in front
+-- an id below all that come stays first
 fold_front : (x : Id × ℕ) (m cs : Shape) → below_all id_cmp x.0 cs ≡ true → fold put_size (x ∷ m) cs ≡ x ∷ fold put_size m cs
 fold_front x m [] h = refl
 fold_front x m (c ∷ cs) h =

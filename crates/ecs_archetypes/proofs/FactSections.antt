@@ -1,4 +1,4 @@
--- Facts that ascend, split behind those of the first entity.
+-- Facts that ascend, split after those of the first entity.
 use Rattle.std.proofs.Common.{◌≡◌, ℕ, zero, suc, ◌+◌, ◌≤◌, ◌==◌, ◌⊎◌, inl, inr, Bool, true, false, true≢false, cond, not, ◌&&◌, ◌||◌, List, [], ◌∷◌, ◌++◌, map, length, take, drop, Some, None, refl, sym, ap, subst, ◌∙◌, arith}
 use Rattle.std.specs.Prelude.{if◌then◌else◌, min, nat_le, nat_lt}
 use Rattle.std.specs.List.{AllByRecursion, cons_option, list_all, prefix_len}

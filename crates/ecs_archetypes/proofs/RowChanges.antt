@@ -97,7 +97,7 @@ module _ (w w' : Entities) (s s' : Store) (sound : IsSound w s) (e : EntityId) (
       by None h = own
       by (Some v) h = ap (λ b. cond b (Some p) (cond (same_entity e e) (Some q) (place_of w e))) (owner_apart v h) ∙ own
 
--- what the index says after both places were told
+-- what the index says after both places were written
 module _ (w : Entities) (e : EntityId) (p q : Place) (alive : is_alive w e ≡ true) where
   pub places_alone : (w1 : Entities) → w1 ≡ with_place w e.index q → (m : Option EntityId) → m ≡ None
       → (y : EntityId) → place_of w1 y ≡ refilled (λ z. cond (same_entity z e) (Some q) (place_of w z)) p m y

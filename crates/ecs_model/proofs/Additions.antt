@@ -1,4 +1,4 @@
--- What counts, lists and tests tell of the keys that are there.
+-- What counts, lists and tests say of the keys that are there.
 use Rattle.std.specs.Prelude.{◌≡◌, ℕ, ◌+◌, ◌-◌, ◌^◌, ◌<◌, ◌==◌, Bool, true, false, List, [], ◌∷◌, filter_map, ℤ, Option, Some, None, is_some, cond, nat_le, if◌then◌else◌}
 use Rattle.std.specs.List.{list_any, cons_option}
 use Rattle.std.specs.Ordering.{nat_cmp, eq_by_cmp}

@@ -23,7 +23,7 @@ use Rattle.ecs_model.proofs.Births.{with_birth}
 use Rattle.ecs_model.proofs.MadeEntities.{no_fact}
 
 module _ {K : Type 0} (R : K → K → Ordering) (o : IsTotalOrder R) where
-  -- the first key is there, and so are those behind it
+  -- the first key is there, and so are those after it
   first_held : {X : Type 0} (x : K × X) (xs : Map K X) → has_key R (x ∷ xs) x.0 ≡ true
   first_held x xs = ap (λ b. is_some (cond b (Some x.1) (value_at R xs x.0))) (eq_itself R o x.0)
 

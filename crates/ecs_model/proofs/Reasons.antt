@@ -11,7 +11,7 @@ use Rattle.ecs_model.specs.World.{WorldState, is_live, first_index, last_index, 
 use Rattle.ecs_model.specs.steps.Outcomes.{next_entity}
 use Rattle.ecs_model.proofs.Maps.{both_true}
 
--- the first reason does not apply, nor those behind it
+-- the first reason does not apply, nor those after it
 pub passed : (b : Bool) (r : Refusal) (rs : List (Bool × Refusal)) → first_reason ((b, r) ∷ rs) ≡ None → (b ≡ false) × (first_reason rs ≡ None)
 passed true r rs h = cc
 passed false r rs h = (refl, h)

@@ -12,7 +12,7 @@ use Rattle.ecs_model.specs.Refusal.{first_reason, refusal_number}
 abbrev pub numbers : List (Bool × Refusal) → List ℕ
 numbers rs = map (λ r. refusal_number r.1) rs
 
--- all numbers behind the first are greater
+-- all numbers after the first are greater
 behind : (n : ℕ) (rs : List (Bool × Refusal)) (b : Bool) (s : Refusal) (k : ℕ) → AllByRecursion (λ m. nat_cmp n m ≡ Less) (numbers rs) → k < length rs
     → slice_index_or rs k (b, s) ≡ (b, s) → n ≤ refusal_number s
 behind n [] b s k above within at = absurd (omega arith)

@@ -94,7 +94,7 @@ one_waits : (b : Bool) (n : ℕ) → 0 < n → n ≡ cond b 1 0 → b ≡ true
 one_waits true n h e = refl
 one_waits false n h e = absurd (omega arith)
 
--- what the heap tells of who waits
+-- what the heap says of who waits
 module _ (slots : List EntitySlot) (items : List (Reverse ℕ)) (has : HasWaiting slots items) where
   pub none_waits : length items ≡ 0 → (q : ℕ) → is_waiting slots q ≡ false
   none_waits empty q = zero_waits _ (count_in items q) (ap (λ xs. count_in xs q) (nil_from_length items empty)) (has q)

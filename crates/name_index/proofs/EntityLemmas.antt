@@ -6,7 +6,7 @@ use Rattle.std.proofs.lemmas.Bool.{and_parts}
 use Rattle.ecs_id.specs.declared.EntityId.{EntityId}
 use Rattle.name_index.specs.Names.{entity_eq}
 
--- the test of entities tells whether they are one
+-- the test of entities decides whether they are one
 pub same_entity : (x y : EntityId) → entity_eq x y ≡ true → x ≡ y
 same_entity x y h =
     let tests = and_parts (x.index == y.index) (x.generation == y.generation) h in

@@ -1,4 +1,4 @@
--- What two ways to the names of entities tell, after a name is bound and after one goes.
+-- What two ways to the names of entities give, after a name is bound and after one goes.
 use Rattle.std.proofs.Common.{◌≡◌, ◌≢◌, ◌⊎◌, ◌↔◌, ℕ, Bool, true, false, cond, List, Some, None, Option, is_some, inl, inr, ⊎_elim, true≢false, bytes_eq, refl, sym, ap, ◌∙◌}
 use Rattle.std.specs.Option.{option_or}
 use Rattle.std.specs.Cmp.Lexicographic.{nat_list_cmp_total}

@@ -60,7 +60,7 @@ from_default [] i at j h differs = absurd (differs (sym h))
 from_default (p ∷ ps) zero at j h differs = ap Some h
 from_default (p ∷ ps) (suc i) at j h differs = from_default ps i at j h differs
 
--- the entry that tells a name
+-- the entry that has a name
 named : (f : EntityId) (q : List ℕ) (o : Option (List ℕ × EntityId)) → name_for f o ≡ Some q → o ≡ Some (q, f)
 named f q None h = absurd (none-some q h)
 named f q (Some p) h =

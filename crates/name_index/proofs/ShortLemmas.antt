@@ -1,4 +1,4 @@
--- The sixteen bytes of a short name: they are those of one name, and two words tell them apart.
+-- The sixteen bytes of a short name: they are those of one name, and two words distinguish them.
 use Rattle.std.proofs.Common.{◌≡◌, ℕ, zero, suc, ◌+◌, ◌-◌, ◌<◌, ◌≤◌, Bool, true, false, List, [], ◌∷◌, ◌++◌, append_assoc, drop, length, length-append, get_or, replicate, take, refl, sym, ap, subst, ◌∙◌, arith}
 use Rattle.std.specs.Prelude.{nat_eq, slice_index}
 use Rattle.std.specs.Cmp.Lexicographic.{bytes_decides, pointwise}
@@ -29,7 +29,7 @@ unfolding eight
 same_eight xs ys at small_a small_b same = sym (le_bytes_8 (eight xs at) (word_at xs at) refl (small_eight xs at small_a) refl)
     ∙ le_bytes_8 (eight ys at) (word_at xs at) refl (small_eight ys at small_b) same
 
--- two words tell keys apart
+-- two words distinguish keys
 module _ (xs ys : List ℕ) (long_a : length xs ≡ 16) (long_b : length ys ≡ 16) (low : eight xs 0 ≡ eight ys 0) (high : eight xs 8 ≡ eight ys 8) where
   each : (i : ℕ) → i < 16 → get_or xs i 0 ≡ get_or ys i 0
   unfolding eight

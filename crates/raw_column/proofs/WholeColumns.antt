@@ -50,7 +50,7 @@ columns_over c (s ∷ ss) bs (suc k) n ws d lt le all e =
     ap₂ (λ xs zs. record { size = s; items = xs } ∷ columns_in c ss zs) head tail
     ∙ ap (λ l. record { size = s; items = rows s c bs } ∷ l) (columns_over c ss ys k n ws d (omega arith) le rest e)
 
--- what is seen of such columns, and the zeros behind their rows
+-- what is seen of such columns, and the zeros after their rows
 module _ (c n : ℕ) (cols : List Values) (k : ℕ) (ws : List ℕ) (d : Values) (lt : k < length cols) where
   first_seen : (v : Values) → first_of n (with_first n ws v) ≡ with_bytes (first_of n v) n ws
   first_seen v = ap (λ xs. record v { items = xs }) (subst (λ m. take m (rows v.size n ws ++ drop n v.items) ≡ rows v.size n ws) (length_rows v.size n ws) (take-append_seam (rows v.size n ws) (drop n v.items)))

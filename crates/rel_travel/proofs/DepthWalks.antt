@@ -21,7 +21,7 @@ use Rattle.rel_travel.specs.Growing.{IsGrownWhere}
 use Rattle.rel_travel.specs.declared.path.Step.{Step}
 use Rattle.rel_travel.proofs.Growth.{IsGrownBy-find, IsGrownBy-none, targets_more}
 
--- 1 for a word that tells nothing
+-- 1 for a word that says nothing
 abbrev pub unknown : ℕ → ℕ
 unknown zero = 1
 unknown (suc n) = 0
@@ -159,7 +159,7 @@ module _ {size : ℕ} {entities : List ℕ} {ids : ℕ → List Id} (links : Are
         | inr other ↦ get_or-set_other words s i w 0 other ∙ are i (λ z. some (get_or-set_other words s i w 0 other ∙ z))
       ]
 
--- more is known where a word is set to one that tells something
+-- more is known where a word is set to one that says something
 pub noted_more : (words xs : List ℕ) (s w : ℕ) → s < length words → AreNoted words xs → AreNoted (set words s (w + 1)) xs
 noted_more words xs s w low all x h =
     elim (cases_eq x s) [

@@ -78,7 +78,7 @@ pub IsGrownBy-then : {A : Type 0} (xs ys old mid new : List A) → IsGrownBy xs 
 IsGrownBy-then xs ys old mid new f g =
     IsGrownWhere-same old new (λ y. (λ h. elim h [ inl a ↦ Contains-append_left xs ys y a | inr b ↦ Contains-append_right xs ys y b ], λ h. Contains-append_cases xs ys y h)) (IsGrownWhere-then old mid new f g)
 
--- the test of membership tells
+-- the test of membership decides it
 pub is_among_tells : (xs : List ℕ) (y : ℕ) → IsTrue (is_among xs y) ↔ Contains xs y
 is_among_tells xs y = (Contains-from_any (λ x z. (Decides-eqb x z).0) y xs, list_any-from_Contains nat_eq_equiv y xs)
 

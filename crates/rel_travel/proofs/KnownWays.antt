@@ -1,4 +1,4 @@
--- What is known of ways tells where a relationship leads.
+-- What is known of ways says where a relationship leads.
 use Rattle.std.proofs.Common.{◌≡◌, ◌≢◌, ◌↔◌, ℕ, Bool, true, false, List, refl, inl, inr}
 use Rattle.std.proofs.lemmas.Bool.{false≢true}
 use Rattle.ecs_id.specs.Id.{Id}
@@ -35,7 +35,7 @@ module _ {n : ℕ} {entities : List ℕ} {ids : ℕ → List Id} (links : AreLin
         λ h. of_steps down t s (turned_reach (upward ids r) down (upward_holds links r) true true s t (by_steps (upward ids r) s t h)),
       )
 
-  -- so it is told of another entity
+  -- so it is known of another entity
   pub told_of_other : (b : Bool) → is_transitive ids r ≡ true → s ≢ t → (b ≡ true ↔ Reached (upward ids r) s t) → b ≡ reaches ids entities r s t
   told_of_other b transitive apart told =
       let test = reaches_tells links r s t in

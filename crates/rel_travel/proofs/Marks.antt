@@ -20,7 +20,7 @@ use Rattle.rel_travel.specs.Finds.{AreMarked, is_among, is_marked, with_find, wi
 pub has_word : (size y : ℕ) → y < size → y / 64 < div_ceil size 64
 has_word size y l = omega (arith, l)
 
--- a number is told by its word and its bit
+-- a number is given by its word and its bit
 same_place : (y z : ℕ) → z / 64 ≡ y / 64 → z % 64 ≡ y % 64 → z ≡ y
 same_place y z word bit = omega (arith, word, bit)
 
@@ -151,7 +151,7 @@ AreMarked-wider size words found n m more =
 pub words_within : (size : ℕ) (words found : List ℕ) (n : ℕ) → AreMarked size words found → size ≤ n → length words ≤ div_ceil n 64
 words_within size words found n m more = omega (arith, m.long, more)
 
--- blank words behind others, before the first and after some more
+-- blank words after others, before the first and after some more
 pub blank_none : (words : List ℕ) (n : ℕ) → words ≡ words ++ replicate (n - n) 0
 blank_none words n =
     let none : n - n ≡ 0 = omega arith in

@@ -36,7 +36,7 @@ module _ (next : ℕ → List ℕ) where
   complete None is_alone found done some l s = absurd (false≢true some)
   complete (Some x) is_alone found done some l s = λ y z h n. s.followed.closed h.0 y (omega (arith, h.1)) h.1 z (rw h.2 n)
 
-  -- a search that begins with nothing left, and one behind what leads to no others
+  -- a search that begins with nothing left, and one after what leads to no others
   pub sought_first : (x t : ℕ) (is_alone : Bool) (found : List ℕ) (done : ℕ) → found ≡ x ∷ [] → done ≡ 0 → IsSoughtFor next x t is_alone found done
   sought_first x t is_alone found done f d =
       rw (f, d) (record { left = []; closed = λ y z h. absurd (omega (arith, h.1)); none = λ _. refl; followed = IsFollowed-none next (x ∷ []) }, not_in_none [] t refl)
@@ -81,7 +81,7 @@ module _ (next : ℕ → List ℕ) where
     sought_for start is lacks sought = let s : IsSoughtFrom next x is_alone found done = rw is at sought in (s, lacks_left s lacks)
 
     module _ (s : IsSoughtFor next x t is_alone found done) where
-      -- so it is told whether t is reached
+      -- so it is known whether t is reached
       pub reached_told : (b : Bool) → (b ≡ true ↔ IsReachedFrom next (x ∷ (s.0).left) t) → b ≡ true ↔ Reached next x t
       reached_told b told = let one = reached_alone x t (s.0).left (s.0).closed s.1 in (λ h. one.0 (told.0 h), λ r. told.1 (one.1 r))
 

@@ -9,7 +9,7 @@ use Rattle.std.proofs.lemmas.Bool.Decides.{nat_tests}
 use Rattle.std.proofs.lemmas.List.{get_or-drop, get_or-take}
 use Rattle.std.proofs.lemmas.Str.Ascii.{IsAscii-from_reads}
 
--- eight bytes from a place on tell of each of them
+-- eight bytes from a place on say what each of them is
 eight_here : (bs : List ℕ) (at : ℕ) → IsAscii (take 8 (drop at bs)) → (i : ℕ) → at ≤ i → i < at + 8 → get_or bs i 0 < 128
 eight_here bs at here i low high =
     let past : at + (i - at) ≡ i = omega arith in

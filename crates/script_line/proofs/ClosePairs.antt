@@ -35,7 +35,7 @@ none_reversed f (x ∷ xs) none =
     ∙ ap (λ v. v || list_any f (x ∷ [])) (none_reversed f xs (rest_not f x xs none))
     ∙ ap (λ v. v || false) (first_not f x xs none)
 
--- an item that passes, behind others that don't
+-- an item that passes, after others that don't
 module _ (f : ℕ → Bool) (ys : List ℕ) (c : ℕ) (here : f c ≡ true) where
   before_cut : (xs : List ℕ) → list_any f xs ≡ false → before_first f (xs ++ c ∷ ys) ≡ xs
   before_cut [] none = front_yes f c ys here

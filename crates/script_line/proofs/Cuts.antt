@@ -28,7 +28,7 @@ end_is_ascii b h = grind (arith, nat_tests)
 abbrev AreAscii : (ℕ → Bool) → Type 0
 AreAscii p = (b : ℕ) → p b ≡ true → b < 128
 
--- behind the n bytes at its front that pass
+-- after the n bytes at its beginning that pass
 cut_behind : (p : ℕ → Bool) → AreAscii p → (bs : List ℕ) (n : ℕ) → IsUtf8 bs → prefix_len p bs ≡ n → IsCharBoundary bs n
 cut_behind p ascii bs zero u e = IsCharBoundary-start bs u
 cut_behind p ascii bs (suc n) u e =
@@ -36,7 +36,7 @@ cut_behind p ascii bs (suc n) u e =
     let passes : p (get_or bs n 0) ≡ true = prefix_len_passes p bs n 0 (omega arith) in
     rw (← add-one n) (IsCharBoundary-after_ascii bs n u (omega arith) (ascii (get_or bs n 0) passes))
 
--- behind the blanks and behind the digits at its front
+-- after the blanks and after the digits at its beginning
 pub cut_behind_blanks : (bs : List ℕ) → IsUtf8 bs → IsCharBoundary bs (prefix_len is_blank bs)
 cut_behind_blanks bs u = cut_behind is_blank blank_is_ascii bs (prefix_len is_blank bs) u refl
 

@@ -41,7 +41,7 @@ abbrev OthersFirst : {X : Type 0} → List ℕ → List (List ℕ × X) → Type
 OthersFirst w [] = ⊤
 OthersFirst w (c ∷ table) = bytes_eq w c.0 ≡ false
 
--- what isn't the first word of a table is looked up behind it
+-- what isn't the first word of a table is looked up after it
 looked_up_behind : {X : Type 0} (w : List ℕ) (table : List (List ℕ × X)) → OthersFirst w table → looked_up (drop 1 table) w ≡ looked_up table w
 looked_up_behind w [] h = refl
 looked_up_behind w (c ∷ table) h = ap (λ b. option_map (λ e. e.1) (cond b (Some c) (find (λ e. bytes_eq w e.0) table))) (sym h)

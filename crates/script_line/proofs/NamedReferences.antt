@@ -13,7 +13,7 @@ use Rattle.script_line.specs.Line.{word_read}
 pub begins_not : (c b : ℕ) (bs : List ℕ) → ((rest : List ℕ) → b ∷ bs ≢ c ∷ rest) → (b == c) ≡ false
 begins_not c b bs p = false_from_ne_true (b == c) (λ e. p bs (ap (λ x. x ∷ bs) (eqb-true b c e)))
 
--- f behind g
+-- f after g
 both_mapped : {A B C : Type 0} (g : A → B) (f : B → C) (o : Option A) → option_map f (option_map g o) ≡ option_map (λ x. f (g x)) o
 both_mapped g f None = refl
 both_mapped g f (Some x) = refl
@@ -27,7 +27,7 @@ plain_read (b ∷ bs) e p =
     ∙ sym (ap plain e)
     ∙ sym (ap (λ v. if v then pair_and_rest bs else plain (trim_front (b ∷ bs))) (begins_not 40 b bs p))
 
--- behind a separator that isn't there stands nothing, and no byte is one
+-- after a separator that isn't there stands nothing, and no byte is one
 nothing_behind : (f : ℕ → Bool) (bs : List ℕ) → position_or_len f bs ≡ length bs → after_first f bs ≡ []
 nothing_behind f bs h = drop_all (position_or_len f bs + 1) bs (omega (arith, h))
 

@@ -10,7 +10,7 @@ IsReadSoFar f xs ys rest = all_of f xs ≡ option_map (λ zs. ys ++ zs) (all_of 
 pub read_none : {A B : Type 0} (f : A → Option B) (xs : List A) → IsReadSoFar f xs [] xs
 read_none f xs = elim (all_of f xs) as (λ o. o ≡ option_map (λ zs. [] ++ zs) o) [ None ↦ refl | Some zs ↦ refl ]
 
--- behind ys stands y
+-- after ys stands y
 joined : {B : Type 0} (ys : List B) (y : B) (o : Option (List B)) → option_map (λ zs. ys ++ zs) (option_map (λ zs. y ∷ zs) o) ≡ option_map (λ zs. (ys ++ y ∷ []) ++ zs) o
 joined ys y None = refl
 joined ys y (Some zs) = ap Some (sym (append_assoc ys (y ∷ []) zs))

@@ -132,7 +132,7 @@ number_unread bs rest n len back within = word_unread unsigned_of_word bs (no_nu
 abbrev pub negated : ℤ × List ℕ → ℤ × List ℕ
 negated p = (neg_ℤ p.0, p.1)
 
--- behind a minus
+-- after a minus
 pub minus_read : (bs : List ℕ) → word_read value_of_word (45 ∷ bs) ≡ option_map negated (word_read unsigned_of_word bs)
 minus_read bs =
     let w : List ℕ = before_first is_blank bs in

@@ -1,4 +1,4 @@
--- The words of a text are its first word and the words behind it.
+-- The words of a text are its first word and the words after it.
 use Rattle.std.proofs.Common.{◌≡◌, ℕ, suc, ◌+◌, ◌==◌, Bool, true, false, not, cond, List, [], ◌∷◌, length, take, drop, refl, ap, ◌∙◌, sym, inl, inr, arith}
 use Rattle.std.specs.Prelude.{filter}
 use Rattle.std.specs.List.{slice_split, onto_first, prefix_len, position_or_len, before_first}
@@ -12,7 +12,7 @@ use Rattle.ecs_model.specs.Script.{word_and_rest}
 abbrev is_word : List ℕ → Bool
 is_word w = not (length w == 0)
 
--- the words between separators, a text without the separators at its front, and what stands behind its first word
+-- the words between separators, a text without the separators at its beginning, and what stands after its first word
 abbrev words_by : (ℕ → Bool) → List ℕ → List (List ℕ)
 words_by p bs = filter is_word (slice_split p bs)
 
@@ -47,7 +47,7 @@ module _ (p : ℕ → Bool) (b : ℕ) (bs : List ℕ) where
       let one : 1 + position_or_len p bs ≡ suc (position_or_len p bs) = omega arith in
       ap (λ v. take (cond (not v) (1 + position_or_len p bs) 0) (b ∷ bs)) e ∙ ap (λ k. take k (b ∷ bs)) one
 
--- the parts are the first word and parts that hold the words behind it
+-- the parts are the first word and parts that hold the words after it
 record SplitsFirst (p : ℕ → Bool) (bs : List ℕ) : Type 0 where
   tail : List (List ℕ)
   parts : slice_split p bs ≡ before_first p bs ∷ tail
@@ -71,7 +71,7 @@ splits_first : (p : ℕ → Bool) (bs : List ℕ) → SplitsFirst p bs
 splits_first p [] = record { tail = []; parts = refl; behind = refl }
 splits_first p (b ∷ bs) = elim (cases_Bool (p b)) [ inl e ↦ splits_yes p b bs e | inr e ↦ splits_no p b bs e (splits_first p bs) ]
 
--- separators at the front hold no word
+-- separators at the beginning hold no word
 words-trim : (p : ℕ → Bool) (bs : List ℕ) → words_by p bs ≡ words_by p (trim_by p bs)
 words-trim p [] = refl
 words-trim p (b ∷ bs) = elim (cases_Bool (p b)) [
@@ -79,7 +79,7 @@ words-trim p (b ∷ bs) = elim (cases_Bool (p b)) [
   | inr e ↦ ap (words_by p) (sym (trim_no p b bs e))
 ]
 
--- behind the separators at the front a word begins, if anything stands there
+-- after the separators at the beginning a word begins, if anything stands there
 no_word : (p : ℕ → Bool) (bs : List ℕ) → length (before_first p (trim_by p bs)) ≡ 0 → trim_by p bs ≡ []
 no_word p [] h = refl
 no_word p (b ∷ bs) h = elim (cases_Bool (p b)) [
@@ -102,11 +102,11 @@ first_word p bs h =
 pub words_none : (bs : List ℕ) → length (word_and_rest bs).0 ≡ 0 → words bs ≡ []
 words_none bs h = words-trim is_blank bs ∙ ap words (no_word is_blank bs h)
 
--- the first word, and the words behind it
+-- the first word, and the words after it
 pub words_next : (bs : List ℕ) → (length (word_and_rest bs).0 == 0) ≡ false → words bs ≡ (word_and_rest bs).0 ∷ words (word_and_rest bs).1
 words_next bs h = words-trim is_blank bs ∙ first_word is_blank (trim_front bs) h
 
--- no text behind the blanks: no word
+-- no text after the blanks: no word
 pub words_at_end : (bs : List ℕ) → length (trim_front bs) ≡ 0 → words bs ≡ []
 words_at_end bs h = words-trim is_blank bs ∙ ap words (none (trim_front bs) h)
   where
@@ -118,7 +118,7 @@ words_at_end bs h = words-trim is_blank bs ∙ ap words (none (trim_front bs) h)
 pub words_from : (bs : List ℕ) → (length (trim_front bs) == 0) ≡ false → words bs ≡ (word_and_rest bs).0 ∷ words (word_and_rest bs).1
 words_from bs h = words_next bs (false_from_ne_true _ (λ e. eqb-false (length (trim_front bs)) 0 h (ap length (no_word is_blank bs (eqb-true (length (word_and_rest bs).0) 0 e)))))
 
--- blanks at the front are left out once
+-- blanks at the beginning are left out once
 pub trim_twice : (bs : List ℕ) → trim_front (trim_front bs) ≡ trim_front bs
 trim_twice [] = refl
 trim_twice (b ∷ bs) = elim (cases_Bool (is_blank b)) [

@@ -7,7 +7,7 @@ use Rattle.std.proofs.lemmas.List.Elements.{All-from_get_or}
 use Rattle.std.proofs.Math.Seq.{drop-cons}
 use Rattle.script_streams.specs.Lines.{HasNoEnd, part}
 
--- the front of a piece that bytes were put into
+-- the beginning of a piece that bytes were put into
 pub consumes_part : (a b : Option (List ℕ)) (given rest : List ℕ) (count long : ℕ) → count ≤ length given → count ≤ long → Consumes a b (take count given)
     → Consumes a b (part 0 count (take long (given ++ rest)))
 consumes_part a b given rest count long few within told =

@@ -6,7 +6,7 @@ use Rattle.std.proofs.lemmas.Bool.{not-false, not-true}
 use Rattle.std.proofs.lemmas.List.{take_more}
 
 module _ {X : Type 0} (same : X → X → Bool) where
-  -- the last that is left of an item and those behind it
+  -- the last that is left of an item and those after it
   abbrev pub last_from : X → List X → X
   last_from k [] = k
   last_from k (x ∷ xs) = cond (same x k) (last_from k xs) (last_from x xs)
@@ -30,7 +30,7 @@ module _ {X : Type 0} (same : X → X → Bool) where
         | false ↦ last_more x xs y
       ]
 
-  -- one more of a list is put behind, unless it is the same as the last
+  -- one more of a list is appended, unless it is the same as the last
   module _ (k : X) (xs : List X) (i : ℕ) (y : X) (low : i < length xs) (here : y ≡ get_or xs i y) where
     step : take (i + 1) xs ≡ take i xs ++ y ∷ []
     step = take_more xs i y low ∙ ap (λ z. take i xs ++ z ∷ []) (sym here)

@@ -54,7 +54,7 @@ module _ (edges : List (Id × TableKey)) (id : Id) where
 
 -- ---- edges that are written
 module _ (id : Id) (to : TableKey) where
-  -- what is told was told, or leads there for the id
+  -- what is found was found, or leads there for the id
   abbrev Told : Option TableKey → Id → TableKey → Type 0
   Told old i k = (old ≡ Some k) ⊎ ((i ≡ id) × (k ≡ to))
 

@@ -1,4 +1,4 @@
--- What the mark of a slot tells of the table under a key.
+-- What the mark of a slot says of the table under a key.
 use Rattle.std.proofs.Common.{◌≡◌, ℕ, ◌<◌, Bool, true, false, List, [], ◌∷◌, map, arith, Option, None, Some, IfSome, MatchOption, length, nat_lt, option_map, unwrap_or, slice_index_or, refl, sym, ap, ◌∙◌}
 use Rattle.std.specs.Option.{option_map_or}
 use Rattle.slab.specs.Slab.{Slab}
@@ -14,7 +14,7 @@ use Rattle.table_store.proofs.Marks.{filled_more, not_filled}
 pub no_rows : (s : Store) (k : TableKey) → table_at s k ≡ None → rows_in s k ≡ 0
 no_rows s k e = ap (λ o. unwrap_or (option_map (λ (t : Archetype). length t.entities) o) 0) e
 
--- where a table has no rows, nobody stands
+-- where a table has no rows, no entity stands
 pub nobody_by : {X : Type 0} (f : EntityId → X) (s : Store) (k : TableKey) → rows_in s k ≡ 0 → option_map_or (λ (t : Archetype). map f t.entities) (table_at s k) [] ≡ []
 nobody_by {X} f s k = by (table_at s k)
   where
@@ -37,7 +37,7 @@ nobody s k = by (table_at s k)
     by None h = refl
     by (Some t) h = none t.entities h
 
--- what is told of no answer, and of one
+-- what is said of no answer, and of one
 pub none_to : {T : Type 0} (o : Option T) (A B : Type 0) (P : T → Type 0) → (A → B) → MatchOption o A P → MatchOption o B P
 none_to None A B P f h = f h
 none_to (Some x) A B P f h = h

@@ -12,7 +12,7 @@ use Rattle.ecs_id.specs.TableKeys.{table_eq}
 use Rattle.table_store.specs.Store.{table_at, changed_at, made_at, released_at}
 use Rattle.table_store.specs.Kept.{Held, tables_from, store_of, standing}
 
--- the test of keys tells whether they are one
+-- the test of keys decides whether they are one
 pub same_key : (k q : TableKey) → table_eq k q ≡ true → k ≡ q
 same_key k q h =
     let tests = both (k.slot == q.slot) (k.serial == q.serial) h in

@@ -57,7 +57,7 @@ module _ {Y : Type 0} where
       by j true e = let same = (Decides-eqb j n).0 e in ap (λ m. is_some (slots.get new m)) same ∙ ap is_some u.changed ∙ sym (ap is_some is) ∙ ap (λ m. is_some (slots.get tables m)) (sym same)
       by j false e = ap is_some (u.others j (λ same. true≢false (sym ((Decides-eqb j n).1 same) ∙ e)))
 
--- numbers are told apart
+-- whether two numbers are one
 abbrev same_number : ℕ → ℕ → Bool
 same_number x y = x == y
 

@@ -62,7 +62,7 @@ few_ids w facts live crowd f = by (is_live w f) refl
 none_pass : {A : Type 0} (p : A → Bool) (xs : List A) → list_any p xs ≡ false → (x : A) → Contains xs x → p x ≡ false
 none_pass p xs h x c = refuted (p x) (λ t. true≢false (sym (any_passes p xs x c t) ∙ h))
 
--- where nobody of these is dead, nothing comes to a built-in entity and no trait changes, the added set may come
+-- where none of these is dead, nothing comes to a built-in entity and no trait changes, the added set may come
 pub may_come : (w : WorldState) (e : EntityId) (i : Id) → IsWellFormed w → is_dead w e i ≡ false → adds_built_in w e.index i ≡ false → changes_trait w e.index i ≡ false → MayCome w e.index i
 may_come w e i h dead built fixed = record {
   live = there (value_at nat_cmp w.live e.index) e.generation (denied (is_alive w e) alive.0);

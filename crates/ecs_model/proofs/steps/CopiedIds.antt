@@ -41,7 +41,7 @@ module _ (w : WorldState) (e : ℕ) (i : Id) where
   own_pair r t c = any_passes (λ j. is_some (target_under r j)) (own_ids w e i) (pair r t) c (rw (eq_itself r) refl)
 
   module _ (b : ℕ) where
-    -- what the tests of a copied id tell
+    -- what the tests of a copied id say
     passes : (c : Id) → Contains (copied w e i b) c → (holds w b c ≡ true) × (is_copied (ids_of w) (own_ids w e i) c ≡ true)
     unfolding copied
     passes c h = let f = (filtered (is_copied (ids_of w) (own_ids w e i)) (ids_of w b) c).0 h in (listed_held w b c f.0, f.1)

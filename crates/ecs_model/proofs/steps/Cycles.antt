@@ -260,7 +260,7 @@ joined r (onward q c) = onward (joined r q) c
 
 -- steps of which some are new, and all these go from e
 module _ (old new : ℕ → List ℕ) (e : ℕ) (Extra : ℕ → Type 0) (step : (x y : ℕ) → Contains (new x) y → Contains (old x) y ⊎ ((x ≡ e) × Extra y)) where
-  -- a way has no new step, or leads to e before the first one and goes on behind the last one
+  -- a way has no new step, or leads to e before the first one and goes on after the last one
   a_way : {x z : ℕ} → Reached new x z → Reached old x z ⊎ (Reached old x e × ((y : ℕ) × Extra y × Reached old y z))
   a_way itself = inl itself
   a_way {x} (onward {y} {z} r c) = further (a_way r) (step y z c)
@@ -445,7 +445,7 @@ added_pairs_close w e i h dead built fixed = (
         absurd (none_in_one w e.index i h may p r.0 r.1 r.2)
     by_then false p k (inr n) at = (after_tells w e.index i h may).1 (copied_closes w e.index i h may p k n at)
 
--- an answer about a list of what comes tells whether there will be a cycle
+-- an answer about a list of what comes says whether there will be a cycle
 pub cycle_by_found : (w : WorldState) (e : EntityId) (i : Id) → IsWellFormed w → is_dead w e i ≡ false → adds_built_in w e.index i ≡ false → changes_trait w e.index i ≡ false
     → (items : List Key) → ((k : Key) → Contains items k ↔ (IsAdded (ids_of w) (e.index, i) k ⊎ IsCopied w e.index i k))
     → (answer : Bool) → IsTrue answer ↔ ((k : Key) × Contains items k × ClosesAt (ids_of w) e.index k) → has_cycle (with_facts w (facts_after_add w e.index i)) ≡ answer

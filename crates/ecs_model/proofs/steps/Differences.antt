@@ -46,7 +46,7 @@ module _ {K X : Type 0} (R : K → K → Ordering) where
       by true rest = ap (λ ks. e.0 ∷ ks) rest
       by false rest = rest
 
--- of an entry that was there, what is left tells whether it passed
+-- of an entry that was there, what is left says whether it passed
 left_there : {X : Type 0} (gone : Bool) (new old : Option X) → new ≡ cond (not gone) old None → is_some old ≡ true → is_some new ≡ not gone
 left_there true new old e there = ap is_some e
 left_there false new old e there = ap is_some e ∙ there

@@ -41,7 +41,7 @@ module _ {K : Type 0} (R : K → K → Ordering) where
   same_unit None (Some y) e = absurd (true≢false (sym e))
   same_unit (Some x) None e = absurd (true≢false e)
 
-  -- what has a key, tells the list of keys
+  -- which keys are there decides the list of keys
   pub same_keys : IsTotalOrder R → ((x y : K) → R x y ≡ Equal → x ≡ y) → {X Y : Type 0} (m : Map K X) (n : Map K Y) → IsMap R m → IsMap R n
       → ((k : K) → has_key R m k ≡ has_key R n k) → keys m ≡ keys n
   same_keys o same m n p q alike =

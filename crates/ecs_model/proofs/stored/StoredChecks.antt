@@ -38,7 +38,7 @@ abbrev printed_with : Printed → Answer → Printed
 printed_with p (Err r) = (p.0, p.1 ++ codes "error " ++ session_refusal_text r ++ codes "\n")
 printed_with p (Ok a) = (after_events a.0, p.1 ++ flat_map event_text (events a.0))
 
--- after some commands in a row, the events told after each
+-- after some commands in a row, the events of each
 abbrev after_orders : Printed → List SessionOrder → Printed
 after_orders p [] = p
 after_orders p (o ∷ os) = after_orders (printed_with p (apply p.0 o)) os
@@ -102,13 +102,13 @@ who_is_a_parent_now_enters_behind_who_was_one : prints (entity (codes "Sun") ∷
 unfolding id_cmp key_cmp first_world next_among within has_chain added replaced facts_with_added new_base copied facts_after_add facts_after_remove deleted facts_after_delete without_entities with_born with_named with_component reasons effect differences step ancestor_line_within reaches top hits fields_of_term fields_of_item solutions rows tokens_from tokens_of faults checked_query query_of digits chars is_utf8 encode command_of free_order apply matching told_of_rows told_of unpin
 who_is_a_parent_now_enters_behind_who_was_one = refl
 
--- a value is told again, what changes nothing tells nothing, a new value is no set, and what is deleted is told by its name
+-- a value that is set again is an event, what changes nothing is none, a new value is no set, and what is deleted goes by its name
 observers_are_told_in_the_order_of_making : prints (InWorld (MakeComponent (codes "Position") fields) ∷ entity (codes "Sun") ∷ Store OnSet (codes "s") (codes "Position") ∷ Store OnAdd (codes "a") (codes "Position") ∷ Store OnRemove (codes "r") (codes "Position") ∷ set_position (codes "Sun") ∷ set_position (codes "Sun") ∷ remove (codes "Sun") (codes "Position") ∷ remove (codes "Sun") (codes "Position") ∷ add (codes "Sun") (tag (codes "Position")) ∷ InWorld (DeleteOne (by_name (codes "Sun"))) ∷ [])
     ≡ codes "set s Sun Position=10,3\nadd a Sun Position\nset s Sun Position=10,3\nremove r Sun Position\nadd a Sun Position\nremove r Sun Position\n"
 unfolding id_cmp key_cmp first_world next_among within has_chain added replaced facts_with_added new_base copied facts_after_add facts_after_remove deleted facts_after_delete without_entities with_born with_named with_component reasons effect differences step ancestor_line_within reaches top hits fields_of_term fields_of_item solutions rows tokens_from tokens_of faults checked_query query_of digits chars is_utf8 encode command_of free_order apply matching told_of_rows told_of unpin
 observers_are_told_in_the_order_of_making = refl
 
--- `_` as `*`: each fact is told, by entity and id
+-- `_` as `*`: each fact is an event, by entity and id
 wildcards_match_stored_facts : prints (entity (codes "A") ∷ entity (codes "B") ∷ entity (codes "Sun") ∷ add (codes "A") (to (codes "With") (codes "B")) ∷ Store OnAdd (codes "one") (codes "_") ∷ Store OnAdd (codes "pairs") (codes "(*,_)") ∷ Store OnAdd (codes "any") (codes "*($this|self)") ∷ InWorld (MakeComponent (codes "Position") fields) ∷ add (codes "Sun") (tag (codes "A")) ∷ add (codes "Sun") (to (codes "A") (codes "B")) ∷ [])
     ≡ codes "add one Position Component\nadd any Position Component\nadd one Sun A\nadd one Sun B\nadd any Sun A\nadd any Sun B\nadd pairs Sun (A,B)\nadd pairs Sun (B,B)\n"
 unfolding id_cmp key_cmp first_world next_among within has_chain added replaced facts_with_added new_base copied facts_after_add facts_after_remove deleted facts_after_delete without_entities with_born with_named with_component reasons effect differences step ancestor_line_within reaches top hits fields_of_term fields_of_item solutions rows tokens_from tokens_of faults checked_query query_of digits chars is_utf8 encode command_of free_order apply matching told_of_rows told_of unpin

@@ -1,4 +1,4 @@
--- The row moves, the last row fills its gap, and the index is told of both.
+-- The row moves, the last row fills its gap, and the index is given both places.
 use Rattle.std.proofs.Common.{◌≡◌, ◌∙◌, ◌<◌, None, ap, option_map, rules, subst, sym, true}
 use Rattle.entity_index.specs.Entities.{is_alive}
 use Rattle.table_store.specs.Rows.{filler}

@@ -1,4 +1,4 @@
--- The numbers stand in front of zeros, of which as many are left as places.
+-- The numbers stand before zeros, of which as many are left as places.
 use Rattle.std.proofs.Common.{◌≡◌, ◌≤◌, List, ◌++◌, ℤ, pos, length, drop, replicate, arith, ◌∙◌, length-append, length-drop}
 use Rattle.std.proofs.Math.Seq.{drop-append_seam}
 use Rattle.std.proofs.lemmas.List.{drop-replicate}

@@ -1,4 +1,4 @@
--- A front of eight zeros is zeros.
+-- A prefix of eight zeros is zeros.
 use Rattle.std.proofs.lemmas.List.{take-replicate}
 use Rattle.std.proofs.Common.{refl, pos}
 use Rattle.std.proofs.lemmas.List.{drop-replicate}
