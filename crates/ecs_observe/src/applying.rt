@@ -77,7 +77,7 @@ pub enum Answer {
 
 impl<A: Allocator + Copy> Session<A> {
     /// Carries out a command. It is refused as `EventsPending` while events wait; else as `OfWorld(Dead)` where one of
-    /// its handles is that of no live entity, and as `OfWorld(UnknownName)` where one of its names is nobody's; and
+    /// its handles is that of no live entity, and as `OfWorld(UnknownName)` where no entity has one of its names; and
     /// else as the call of the same name refuses it.
     pub fn apply(&mut self, command: Command<'_, A>) -> Result<Answer, SessionError>
         ensures answers { AnswersApply (answered result) (apply (session_of self.old) (order_of command.entry)) self.old

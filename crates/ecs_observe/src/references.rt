@@ -33,7 +33,7 @@ pub fn find_entity<A: Allocator>(
     }
 }
 
-/// The entity of a reference and the id of others. A dead handle among them comes before a name that is nobody's.
+/// The entity of a reference and the id of others. A dead handle among them comes before an unknown name.
 #[inline(always)]
 pub fn find_both<A: Allocator>(
     world: &World<A>,

@@ -54,7 +54,7 @@ fn closes<G: Holders, A: Allocator>(
             if fact.entity() != entity {
                 return true;
             }
-            // No chain leads to what is nobody's target.
+            // No chain leads to what is no target.
             if target != entity && !may_be_target(graph, id.first(), entity) {
                 return false;
             }

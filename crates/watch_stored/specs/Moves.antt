@@ -23,7 +23,7 @@ enters before now e = is_among now e && not (is_among before e)
 abbrev pub is_untold : Query → WorldState → ℕ → Bool
 is_untold q w e = is_none (told_by_ids q w e)
 
--- nobody has left or entered, and there is no set
+-- no entity has left or entered, and there is no set
 pub record AreNoMoves {A : Type 0} (rows : RowsAfter A) : Type 0 where
   pub left : rows.left.items ≡ []
   pub entered : rows.entered.items ≡ []

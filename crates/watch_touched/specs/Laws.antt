@@ -33,13 +33,14 @@ abbrev pub UnconcernedQueriesMatchOn : Type 0
 UnconcernedQueriesMatchOn = (v : WorldState) (changed : Changed) (q : Query) → IsWellFormed v → IsAfter v changed → is_concerned q changed ≡ false
     → matching (view_before v changed) q ≡ matching (view_of v) q
 
--- where facts of others move those alone who hold a pair with their entities, or with one below these, and all who may move are among some entities, all others that were in the rows of an
--- anchored query stay there, and none of them enters
+-- where facts of others move only those who hold a pair with their entities, or with one below these: if all who may
+-- move are among some entities, all others that were in the rows of an anchored query stay there, and none of them
+-- enters
 abbrev pub OthersThanMovingStay : Type 0
 OthersThanMovingStay = (v : WorldState) (changed : Changed) (q : Query) → IsWellFormed v → IsAfter v changed → IsSound q → is_anchored q ≡ true → are_holders q changed ≡ true
     → (es : List ℕ) → AreMoving q v changed es → (e : ℕ) → (Contains es e → ⊥) → Contains (matching (view_before v changed) q) e ↔ Contains (matching (view_of v) q) e
 
--- so do all others than those who may move by who may stand for a variable, of an anchored query that is linked by some terms
+-- in an anchored query that is linked by some terms, all stay but those who may move by who may stand for a variable
 abbrev pub OthersThanRolesStay : Type 0
 OthersThanRolesStay = (v : WorldState) (changed : Changed) (q : Query) → IsWellFormed v → IsAfter v changed → IsSound q → is_anchored q ≡ true → (by : ℕ → Term → Bool) → is_linked_by by q ≡ true
     → (es : List ℕ) → AreMovingByRoles q v by changed es → (e : ℕ) → (Contains es e → ⊥) → Contains (matching (view_before v changed) q) e ↔ Contains (matching (view_of v) q) e

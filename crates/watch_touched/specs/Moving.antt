@@ -50,14 +50,15 @@ abbrev pub finds_moving : Query → Changed → Bool
 finds_moving q changed = is_anchored q && (is_tied q || is_linked q || (not (any_concerns_others q changed.came) && not (any_concerns_others q changed.went)))
 
 module _ (q : Query) (w : WorldState) where
-  -- among these are all with whom somebody holds a pair who may move by another one's fact: those of whom a fact came or went that concerns others,
-  -- those of whom one did that concerns those below, and all below these
+  -- among these are all by whose facts an entity may move that holds a pair with them: those of whom a fact came or
+  -- went that concerns others, those of whom one did that concerns those below, and all below these
   pub record AreTargets (changed : Changed) (xs : List ℕ) : Type 0 where
     pub others : (x : ℕ) → Contains (entities_of (concerns_others q) changed) x → Contains xs x
     pub below : HasAllBelow (λ ids. concerns_beyond q) w (entities_of (concerns_below q) changed) xs
 
-  -- among these are all who may move: those whose own facts came or went, and those who hold a pair that concerns the query with such a target, but for those who lack what is asked of `$this`.
-  -- They hold it now: who held one before alone has lost it by a fact of its own
+  -- among these are all who may move: those whose own facts came or went, and those who hold a pair that concerns the
+  -- query with such a target, but for those who lack what is asked of `$this`. They hold it now: who held one only
+  -- before has lost it by a fact of its own
   pub record AreMoving (changed : Changed) (es : List ℕ) : Type 0 where
     pub own : (e : ℕ) → Contains (entities_of (concerns q) changed) e → Contains es e
     pub targets : List ℕ

@@ -1,4 +1,6 @@
--- Who may have moved in or out of a linked query's rows by facts of others: for whom those may stand of whom a fact came or went, and back from there along the terms that link its variables.
+-- Who may have moved in or out of a linked query's rows by facts of others: a fact that came or went is asked of a
+-- variable for which its holder may stand, and back from there the terms that link the query's variables lead to all
+-- who may have moved.
 use Rattle.std.specs.Prelude.{◌≡◌, ℕ, zero, suc, ◌==◌, Bool, true, not, ◌&&◌, List, [], ◌∷◌, ◌++◌, filter, flat_map, map, if◌then◌else◌}
 use Rattle.std.specs.List.{Contains, range_with_len}
 use Rattle.ecs_id.specs.Id.{Id}
@@ -44,7 +46,8 @@ module _ (q : Query) (w : WorldState) (by : ℕ → Term → Bool) (changed : Ch
   abbrev pub behind : ℕ → ℕ → ℕ → List ℕ
   behind u v y = holders_as u v y ++ targets_as u v y
 
-  -- among these, each a variable and an entity that may stand for it, are those of whom a fact came or went that is asked of the variable, and with each all from whom terms lead back to it
+  -- among these, each a variable and an entity that may stand for it, are those of whom a fact came or went that is
+  -- asked of the variable, and with each all from whom terms lead back to it
   pub record AreRoles (roles : List (ℕ × ℕ)) : Type 0 where
     pub asked : (u : ℕ) (k : Key) → Contains (changed.came ++ changed.went) k → is_asked_of u k ≡ true → Contains roles (u, k.0)
     pub closed : (u v x y : ℕ) → Contains roles (v, y) → Contains (behind u v y) x → Contains roles (u, x)
@@ -67,8 +70,9 @@ module _ (q : Query) (w : WorldState) (by : ℕ → Term → Bool) (changed : Ch
   abbrev pub this_among : List (ℕ × ℕ) → List ℕ
   this_among roles = filter (may_be_this q w) (map (λ k. k.1) (filter (λ k. k.0 == 0) roles))
 
-  -- among these are all who may move: those whose own facts came or went; those who may stand for `$this` so, but for those who lack what is asked of it; and those who hold a pair that
-  -- concerns the query with one of whom a fact came or went that concerns those below, or with one below such
+  -- among these are all who may move: those whose own facts came or went; those who may stand for `$this` so, but for
+  -- those who lack what is asked of it; and those who hold a pair that concerns the query with one of whom a fact came
+  -- or went that concerns those below, or with one below such
   pub record AreMovingByRoles (es : List ℕ) : Type 0 where
     pub own : (e : ℕ) → Contains (entities_of (concerns q) changed) e → Contains es e
     pub roles : List (ℕ × ℕ)

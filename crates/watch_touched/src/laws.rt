@@ -24,9 +24,9 @@ pub fn others_than_moving_stay()
     ensures { OthersThanMovingStay }
 {}
 
-/// Law: of a linked query all stay whose own facts neither came nor went, from whom no terms lead to somebody of whom a
-/// fact came or went that is asked of him as another variable, and who are below nobody whose facts concern those
-/// below.
+/// Law: where a query is linked, an entity stays where three things hold. Its own facts neither came nor went. No terms
+/// lead from it to an entity of whom a fact came or went that is asked of it as another variable. It is below none
+/// whose facts concern those below.
 pub fn others_than_those_who_may_stand_stay()
     ensures { OthersThanRolesStay }
 {}

@@ -21,7 +21,7 @@ pub(crate) struct PaddedText<B: Allocator> {
 }
 
 /// An entity by its index, with its text: the first `alone` bytes. With the bracket that closes a field it is the first
-/// `closed`, and with the end of the line after that the first `ended`. Of nobody yet, it has no bytes.
+/// `closed`, and with the end of the line after that the first `ended`. Of no entity yet, it has no bytes.
 #[derive(Drop)]
 pub(crate) struct EntityText<B: Allocator> {
     pub(crate) index: u64,
@@ -80,7 +80,7 @@ impl<B: Allocator> PaddedText<B> {
 }
 
 impl<B: Allocator> EntityText<B> {
-    /// A text of nobody. It takes no memory.
+    /// A text of no entity. It takes no memory.
     pub(crate) fn new(alloc: B) -> Self
         ensures { (w : WorldState) → IsKept w result }
     {
