@@ -32,7 +32,7 @@ use Rattle.watch_stored.specs.declared.stored.StoredQuery.{StoredQuery}
 use Rattle.watch_stored.proofs.AnswerableQueries.{matching_ascends}
 use Rattle.ecs_observe.proofs.StayingRows.{told_now, with_rows_told}
 
--- ---- one stored query more
+-- ---- one more stored query
 module _ {A X : Type 0} (f : X → List A) where
   flat_more : (xs : List X) (i : ℕ) (x : X) → slice_get xs i ≡ Some x → flat_map f (take (suc i) xs) ≡ flat_map f (take i xs) ++ f x
   flat_more [] i x h = cc
@@ -130,7 +130,7 @@ taken_length f [] i h there = cc
 taken_length f (x ∷ hs) zero h there = refl
 taken_length f (x ∷ hs) (suc i) h there = ap suc (taken_length f hs i h there)
 
--- one stored query more, at whose place something is put or not
+-- one more stored query, at whose place something is put or not
 module _ {A : Type 0} (f : Held → Option (List ℕ)) (es : List (String A × StoredQuery A)) where
   abbrev hs : List Held
   hs = map held_of es

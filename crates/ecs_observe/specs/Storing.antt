@@ -32,13 +32,13 @@ abbrev pub CountsStored : {T E : Type 0} → Result T E → StoredKind → List 
 CountsStored (Ok _) kind text old new = (q : Query) → query_of (old.world).state text ≡ Ok q → new.compared ≡ counted_for kind q old.compared
 CountsStored (Err _) kind text old new = new.compared ≡ old.compared
 
--- a world whose counts are those with one stored query more
+-- a world whose counts are those with one more stored query
 abbrev pub with_pinned : world.Standing → Query → world.Standing
 with_pinned w q = record w { state = pinned_by w.state q.mentions }
 
 abbrev pub with_unpinned : world.Standing → Query → world.Standing
 with_unpinned w q = record w { state = unpinned_by w.state q.mentions }
 
--- a session with one stored query more, after the others
+-- a session with one more stored query, after the others
 abbrev pub with_held : Standing → Held → Standing
 with_held s h = record s { world = with_pinned s.world h.query; stored = s.stored ++ h ∷ [] }

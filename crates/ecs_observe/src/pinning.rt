@@ -8,7 +8,7 @@ use ecs_world::World;
 use query_model::query::Mention;
 use std::alloc::Allocator;
 
-/// Counts one stored query more, which mentions these entities. They live. It takes no memory.
+/// Counts one more stored query, which mentions these entities. They live. It takes no memory.
 pub(crate) fn pin_all<A: Allocator + Copy>(world: &mut World<A>, mentions: &[Mention])
     requires { All (λ m. is_alive world.old.state m.entity ≡ true) mentions.now }
     ensures pinned { world.new.state ≡ pinned_by world.old.state mentions.now }

@@ -1,4 +1,4 @@
--- The numbers of a value as they are printed, one field more at a time, from the last on.
+-- The numbers of a value as they are printed, one field at a time, from the last on.
 use Rattle.std.specs.Prelude.{◌≡◌, ℕ, zero, suc, ◌+◌, ◌^◌, ◌<◌, ◌≤◌, false, ℤ, pos, negsuc, int_le, unsigned_abs, IsTrue, List, [], ◌∷◌, ◌++◌, flat_map, drop, length, slice_get, Some, Result, Ok, Err, OnOk, is_ok, if◌then◌else◌}
 use Rattle.std.specs.Fmt.{decimal, signed_decimal}
 use Rattle.std.proofs.Common.{refl, ap, sym, ◌∙◌, append-nil, arith}
@@ -19,7 +19,7 @@ values_text-cons : (n : ℤ) (ns : List ℤ) → values_text (n ∷ ns) ≡ sign
 values_text-cons n [] = sym (append-nil (signed_decimal n))
 values_text-cons n (m ∷ ns) = ap (λ t. signed_decimal n ++ 44 ∷ t) (values_text-cons m ns)
 
--- one number more before the others
+-- one more number before the others
 pub number_before : (vs : List ℤ) (i : ℕ) (v : ℤ) → slice_get vs i ≡ Some v → behind_comma v ++ flat_map behind_comma (drop (suc i) vs) ≡ flat_map behind_comma (drop i vs)
 number_before [] i v at = cc
 number_before (n ∷ ns) zero v at = let same : n ≡ v = cc in ap (λ z. behind_comma z ++ flat_map behind_comma ns) (sym same)

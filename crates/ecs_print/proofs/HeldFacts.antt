@@ -34,7 +34,7 @@ key_at [] k i bytes h = cc
 key_at (c ∷ cells) zero i bytes h = let same : c ≡ pair_of i bytes = cc in ap (λ z. Some z.0) same
 key_at (c ∷ cells) (suc k) i bytes h = key_at cells k i bytes h
 
--- one fact more
+-- one more fact
 pub fact_more : (w : WorldState) (e : ℕ) (cells : Cells) (k : ℕ) (i : Id) (bytes start old new : List ℕ) → AreFactsOf w e cells → slice_get cells k ≡ Some (pair_of i bytes) → value_at id_cmp cells i ≡ Some bytes
     → old ≡ start ++ flat_map (fact_text w e) (take k (ids_of w e)) ++ codes " [" → new ≡ old ++ held_text w i bytes → new ≡ start ++ flat_map (fact_text w e) (take (k + 1) (ids_of w e)) ++ codes " ["
 fact_more w e cells k i bytes start old new are here at before now =

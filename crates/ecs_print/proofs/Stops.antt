@@ -27,7 +27,7 @@ stops_behind before piece mid after text is so = record {
   front = ap (λ xs. piece ++ xs) so.front ∙ sym (append_assoc piece so.more so.rest);
 }
 
--- before a piece more
+-- before one more piece
 pub stops_sooner : {X : Type 0} (before after text more : List X) → StopsWithin before after text → StopsWithin before after (text ++ more)
 stops_sooner before after text more so = record {
   more = so.more;

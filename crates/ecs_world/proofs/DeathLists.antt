@@ -35,7 +35,7 @@ map-join f [] ys = refl
 map-join f (x ∷ xs) ys = ap (λ zs. f x ∷ zs) (map-join f xs ys)
 
 module _ (w : WorldState) (is : List ℕ) (k d : ℕ) (inside : k < length is) (o : Option EntityId) (at : o ≡ entity_at w (get_or is k d)) where
-  -- one entity more, if it lives
+  -- one more entity, if it lives
   pub entities_more : entities_at w (take (k + 1) is) ≡ entities_at w (take k is) ++ listed o
   entities_more =
       ap (entities_at w) (take_more is k d inside) ∙ filter_map-append (entity_at w) (take k is) (get_or is k d ∷ [])

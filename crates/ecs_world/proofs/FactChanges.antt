@@ -35,7 +35,7 @@ module _ (types types' : Id → Option Schema) (cells cells' : Map ℕ Cells) (h
   facts_same now = same_facts (all_facts types' cells') facts (IsMap-facts types' cells' h'.in_order h'.rise) (IsMap-facts types cells h.in_order h.rise)
       (λ q. find-facts types' q.0 q.1 cells' h'.in_order ∙ ap (option_map (value_in (types' q.1))) (now q.0 q.1) ∙ was q.0 q.1)
 
-  -- one fact more, or a new value
+  -- one more fact, or a new value
   pub facts_put : (e : ℕ) (i : Id) (bytes : List ℕ) → ((d : ℕ) (j : Id) → bytes_in cells' d j ≡ cond (eq_by_cmp key_cmp (d, j) (e, i)) (Some bytes) (bytes_in cells d j))
       → all_facts types' cells' ≡ with_value key_cmp facts (e, i) (value_in (types' i) bytes)
   facts_put e i bytes now = same_facts (all_facts types' cells') (with_value key_cmp facts (e, i) (value_in (types' i) bytes)) (IsMap-facts types' cells' h'.in_order h'.rise)

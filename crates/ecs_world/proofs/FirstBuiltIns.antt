@@ -172,7 +172,7 @@ get_mapped f [] k d y lt = absurd (omega arith)
 get_mapped f (x ∷ xs) zero d y lt = refl
 get_mapped f (x ∷ xs) (suc k) d y lt = get_mapped f xs k d y (omega arith)
 
--- one name more
+-- one more name
 pub named_step : (list : List (Bor (List ℕ))) (names names' : Names) (k j : ℕ) (d : Bor (List ℕ)) → k ≡ j → map (λ t. t.now) list ≡ built_in_names → AreFirstNames names k → j < length list
     → finite.get names (get_or list j d).now ≡ None → names' ≡ finite.insert names (get_or list j d).now (record { index = k + 1; generation = 0 }) → AreFirstNames names' (k + 1)
 named_step list names names' k j d same are first lt free bound =

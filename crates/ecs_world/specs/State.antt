@@ -111,7 +111,7 @@ pub record IsEncoded (type : Option Schema) (vs : List ℤ) (size : ℕ) (buffer
   pub few : size ≤ 64
   pub value : value_in type (take size buffer) ≡ vs
 
--- the reasons against one id more for an entity of which this was found
+-- the reasons against one more id for an entity of which this was found
 abbrev pub growth_reasons : FoundFact → Bool → List (Bool × Refusal)
 growth_reasons found is_spent = (not found.is_held && nat_le most_ids found.count, TooManyIds) ∷ (is_spent, Full) ∷ []
 

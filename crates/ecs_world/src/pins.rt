@@ -20,7 +20,7 @@ impl<A: Allocator> World<A> {
 }
 
 impl<A: Allocator + Copy> World<A> {
-    /// Counts one stored query more that mentions an entity. A count that reaches 2^64 - 1 stays for good.
+    /// Counts one more stored query that mentions an entity. A count that reaches 2^64 - 1 stays for good.
     ///
     /// Fails of a dead entity, and then nothing changes. It takes no memory.
     pub fn pin(&mut self, entity: EntityId) -> Result<(), Refusal>
@@ -48,7 +48,7 @@ impl<A: Allocator + Copy> World<A> {
     }
 }
 
-/// The count after one query more.
+/// The count after one more query.
 fn one_more(count: u64) -> u64
     ensures { result ≡ one_more count }
 {

@@ -183,7 +183,7 @@ impl<A: Allocator> World<A> {
         }
     }
 
-    /// Why an entity does not get one id more, if it gets one.
+    /// Why an entity does not get one more id, if it gets one.
     fn growth_refusal(&self, found: &FoundFact) -> Option<Refusal>
         ensures { result ≡ first_reason (growth_reasons found.now (is_spent self.now.state)) }
     {

@@ -195,7 +195,7 @@ module _ (ids : ℕ → List Id) where
       out z (inl a) = Contains-append_left (facts_with e (pair r t) cs) (facts_with t (pair r e) ds) z ((in_facts e (pair r t) cs tells z).1 a)
       out z (inr (c, b, p, s, q, same)) = Contains-append_right (facts_with e (pair r t) cs) (facts_with t (pair r e) ds) z (rw same (in_map (λ c. (t, pair c e)) ds c ((least c).1 (b, begins b p s, q))))
 
--- one fact more among those that are gone through
+-- one more fact among those that are gone through
 pub symmetric_more : (ids : ℕ → List Id) (ks : List Key) (n : ℕ) (d : Key) → n < length ks
     → symmetric_of ids (take (n + 1) ks) ≡ symmetric_of ids (take n ks) ++ filter (is_symmetric ids) (first_of ((get_or ks n d).1) ∷ [])
 symmetric_more ids ks n d l =

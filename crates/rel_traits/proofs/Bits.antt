@@ -63,7 +63,7 @@ tested : (n b : ℕ) (h : Bool) → bit_at n b ≡ cond h 1 0 → (bit_and n (2 
 tested n b true e = let is : bit_and n (2 ^ b) ≡ 2 ^ b = and_pow n b ∙ ap (λ m. m * 2 ^ b) e ∙ omega arith in grind (arith, nat_tests, is)
 tested n b false e = let is : bit_and n (2 ^ b) ≡ 0 = and_pow n b ∙ ap (λ m. m * 2 ^ b) e ∙ omega arith in let more = pow_above b in grind (arith, nat_tests, is, more)
 
--- one id more sets its own bit, and no other
+-- one more id sets its own bit, and no other
 one_at : (held : List Id) (i t : Id) (n b : ℕ) → bit_at (bit_if (held ++ i ∷ []) t n) b ≡ max (bit_at (bit_if held t n) b) (bit_at (bit_if (i ∷ []) t n) b)
 one_at held i t n b = rw (list_any-append (λ j. id_eq j t) held (i ∷ [])) (by (is_held held t) (is_held (i ∷ []) t))
   where

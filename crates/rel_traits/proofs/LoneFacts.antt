@@ -21,7 +21,7 @@ use Rattle.rel_traits.specs.After.{ClosesAt}
 target_more : (is : List Id) (n : ℕ) (i : Id) (r : ℕ) → n < length is → i ≡ get_or is n i → targets_in (take (n + 1) is) r ≡ targets_in (take n is) r ++ targets_in (i ∷ []) r
 target_more is n i r inside at = rw (take_more is n i inside, ← at) (filter_map-append (target_under r) (take n is) (i ∷ []))
 
--- one id more that is no pair of the relationship leads nowhere along it
+-- one more id that is no pair of the relationship leads nowhere along it
 pub none_more : (is : List Id) (n : ℕ) (i : Id) (r : ℕ) → n < length is → i ≡ get_or is n i → is_some (target_under r i) ≡ false → targets_in (take n is) r ≡ [] → targets_in (take (n + 1) is) r ≡ []
 none_more is n i r inside at none before = target_more is n i r inside at ∙ (λ k. before k ++ alone (target_under r i) none k)
   where
@@ -29,7 +29,7 @@ none_more is n i r inside at none before = target_more is n i r inside at ∙ (�
     alone None h = refl
     alone (Some t) h = absurd (true≢false h)
 
--- one id more, with the only target so far
+-- one more id, with the only target so far
 pub one_more : (is : List Id) (n : ℕ) (i : Id) (r : ℕ) (only one : Option ℕ) → n < length is → i ≡ get_or is n i → targets_in (take n is) r ≡ cons_option only [] → cons_option one [] ≡ cons_option only (cons_option (target_under r i) [])
     → targets_in (take (n + 1) is) r ≡ cons_option one []
 one_more is n i r only one inside at before now = target_more is n i r inside at ∙ (λ k. before k ++ cons_option (target_under r i) []) ∙ by only ∙ sym now

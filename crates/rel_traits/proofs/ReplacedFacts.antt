@@ -14,7 +14,7 @@ others_append s e r t xs ys =
     rw (filter_map-append (target_under r) xs ys, filter-append (λ u. not (u == t)) (targets_in xs r) (targets_in ys r))
     (flat_map-append (λ u. (e, pair r u) ∷ cond s ((u, pair r e) ∷ []) []) (filter (λ u. not (u == t)) (targets_in xs r)) (filter (λ u. not (u == t)) (targets_in ys r)))
 
--- those of one id more
+-- those of one more id
 pub others_more : (s : Bool) (e r t : ℕ) (ids : List Id) (k : ℕ) (i : Id) (xs ys zs : List Key) → k < length ids → i ≡ get_or ids k i → ys ≡ xs ++ others_of s e r t (take k ids) → zs ≡ ys ++ others_of s e r t (i ∷ [])
     → zs ≡ xs ++ others_of s e r t (take (k + 1) ids)
 others_more s e r t ids k i xs ys zs l is before after =

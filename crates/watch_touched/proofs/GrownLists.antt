@@ -59,7 +59,7 @@ there_already xs x h =
     already (x ∷ []) xs
     (λ e m. elim (head_or_tail x e [] m) [ inl same ↦ subst (Contains xs) (eq_same found.0 x found.2 ∙ same) found.1 | inr none ↦ absurd (omega (arith, none.1)) ])
 
--- ---- one item more of a list
+-- ---- one more item of a list
 
 pub added : {X : Type 0} (index : X → ℕ) (xs : List X) (i : ℕ) → i < length xs → (d : X) (x y z : List ℕ) → Adds (map index (take i xs)) x y → Adds (index (get_or xs i d) ∷ []) y z → Adds (map index (take (i + 1) xs)) x z
 added index xs i inside d x y z h k =
@@ -69,7 +69,7 @@ added index xs i inside d x y z h k =
 more_of : {X : Type 0} (next : X → List ℕ) (xs : List X) (x : X) → flat_map next (xs ++ (x ∷ [])) ≡ flat_map next xs ++ next x
 more_of next xs x = flat_map-append next xs (x ∷ []) ∙ ap (λ ys. flat_map next xs ++ ys) (sym (nothing_behind (next x)))
 
--- all that one item more gives
+-- all that one more item gives
 pub given : {X : Type 0} (next : X → List ℕ) (xs : List X) (i : ℕ) → i < length xs → (d : X) (x y z : List ℕ) → Adds (flat_map next (take i xs)) x y → Adds (next (get_or xs i d)) y z → Adds (flat_map next (take (i + 1) xs)) x z
 given next xs i inside d x y z h k =
     subst (λ a. Adds a x z) (sym (ap (flat_map next) (take_more xs i d inside) ∙ more_of next (take i xs) (get_or xs i d))) (and_then (flat_map next (take i xs)) (next (get_or xs i d)) x y z h k)

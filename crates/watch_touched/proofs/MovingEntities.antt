@@ -64,7 +64,7 @@ own_move q w changed own are_own others below = record {
   held = λ x e h on. absurd (omega (arith, h.1));
 }
 
--- ---- one fact more, whose entity is added if its id passes
+-- ---- one more fact, whose entity is added if its id passes
 
 picked : (b : Bool) (k : Key) → map (λ (k : Key). k.0) (cond b (k ∷ []) []) ≡ (if b then k.0 ∷ [] else [])
 picked true k = refl

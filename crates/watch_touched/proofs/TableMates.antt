@@ -77,7 +77,7 @@ module _ (p : List Id → Id → Bool) (w : WorldState) (x : ℕ) (entities : Li
   pub all_added : (after : List ℕ) → Adds indexes found after → Adds (filter (leans p w x) indexes) found after
   all_added after adds = fewer indexes (filter (leans p w x) indexes) found after adds (λ e m. ((filtered (leans p w x) indexes e).0 m).0)
 
--- ---- one table more
+-- ---- one more table
 
 module _ (p : List Id → Id → Bool) (w : WorldState) (x : ℕ) (s : Store) (tables : List TableKey) (i : ℕ) (inside : i < length tables) (d : TableKey) (before found : List ℕ)
     (so_far : Adds (filter (leans p w x) (flat_map (standing_in s) (take i tables))) before found) where

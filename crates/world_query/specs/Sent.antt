@@ -22,7 +22,7 @@ abbrev pub IsRefused : {T : Type 0} → Result T SendError → Type 0
 IsRefused r = IsErrAnd r IsMemory
 
 -- a prefix of the text was appended to what the list held. The writer has taken some of that, which has left the list,
--- and in a write that failed a part more, with which the list begins: none where memory was refused
+-- and in a write that failed one more part, with which the list begins: none where memory was refused
 pub record StopsSending (refused : Type 0) (old new : Option (List ℕ)) (before after text : List ℕ) : Type 0 where
   pub sent : List ℕ
   pub part : List ℕ

@@ -16,7 +16,7 @@ use Rattle.world_script.proofs.Effects.{effects_from-first, effects_from-line, e
 use Rattle.world_script.proofs.FirstLine.{lines_of-last, lines_of-line}
 use Rattle.world_script.proofs.KeptLines.{form_of-kept, kept_front}
 
--- ---- one line more, of what was run
+-- ---- one more line, of what was run
 
 -- after whole lines, a line does what it does from their session on
 ended_line : (whole line : List ℕ) (s : SessionState) (summary : Summary) → HasNoEnd line → GoesOn whole s summary
@@ -75,7 +75,7 @@ RunsLine-kept s t n a b before after old new same run =
     let P : Form → Type 0 = λ f. RunsLine (effect_of s n f) t before after old new in
     subst P (form_of-kept a b same) run
 
--- ---- one step more, of what was read and written
+-- ---- one more step, of what was read and written
 
 -- no line was run yet
 pub IsRunning-start : (told old : Option (List ℕ)) (held : Held) (s : SessionState) (summary : Summary) (output : List ℕ)

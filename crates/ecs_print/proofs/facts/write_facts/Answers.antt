@@ -1,4 +1,4 @@
--- A fact more at each turn.
+-- One more fact at each turn.
 use Rattle.ecs_model.proofs.Maps.{of_some}
 use Rattle.ecs_world.specs.State.{AreFactsOf}
 use Rattle.ecs_print.proofs.HeldFacts.{fact_more}

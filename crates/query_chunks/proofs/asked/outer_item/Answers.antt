@@ -1,4 +1,4 @@
--- A piece more at each turn.
+-- One more piece at each turn.
 use Rattle.std.proofs.Common.{map, refl, ap, ◌∙◌, arith}
 use Rattle.query_check.specs.Seen.{seen_item, seen_piece}
 use Rattle.query_chunks.proofs.Items.{closed_one, found_one, opened_one, passed_one, piece_at, same_passing}
