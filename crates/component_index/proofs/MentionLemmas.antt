@@ -58,7 +58,7 @@ Keeps-steps a b c f g i h = g i (f i h)
 pub Keeps-same : (old new : List Bool) → ((i : ℕ) → slice_index_or new i false ≡ slice_index_or old i false) → Keeps old new
 Keeps-same old new same i h = same i ∙ h
 
--- ---- one id more
+-- ---- one more id
 pub noted_more : (old new : List Bool) (ids : List Id) (i : ℕ) (d id : Id) → id ≡ slice_index_or ids i d → i < length ids → Keeps old new
     → ((p : Pattern) → list_any (matches p) (take i ids) ≡ true → may_match old p ≡ true) → ((p : Pattern) → matches p id ≡ true → may_match new p ≡ true)
     → (p : Pattern) → list_any (matches p) (take (i + 1) ids) ≡ true → may_match new p ≡ true

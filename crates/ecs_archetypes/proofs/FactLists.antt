@@ -33,7 +33,7 @@ above x y low apart = by (id_cmp x y) refl
     by Equal e = absurd (true≢false (sym (ap is_eq e) ∙ apart))
     by Greater e = absurd (true≢false (sym (ap is_lt (id_cmp_total.antisymm y x ∙ ap ordering_reverse e)) ∙ low))
 
--- one id more in a list of sizes
+-- one more id in a list of sizes
 abbrev pub put_size : Shape → Id × ℕ → Shape
 put_size m c = put id_cmp c.0 c.1 m
 

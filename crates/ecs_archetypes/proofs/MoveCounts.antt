@@ -20,7 +20,7 @@ unequal a b d = grind (arith, nat_tests)
 length_more : (ms : List EntityMove) (m : EntityMove) → length (ms ++ m ∷ []) ≡ length ms + 1
 length_more ms m = length-append ms (m ∷ [])
 
--- what is counted after one move more, whose table's count has risen
+-- what is counted after one more move, whose table's count has risen
 module _ (ms : List EntityMove) (m : EntityMove) (old new : BTreeMap ℕ ℕ) (counted : AreCounted ms old) (n : ℕ) (set : ordered.Updates nat_cmp old new (m.to).serial (Some n))
     (all : (q : TableKey) → q.serial ≡ (m.to).serial → moves_to q ms + 1 ≤ n) (few : n ≤ length ms + 1) where
   at_serial : (s : ℕ) → s ≡ (m.to).serial → ordered.get nat_cmp new s ≡ Some n

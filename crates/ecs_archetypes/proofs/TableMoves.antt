@@ -133,7 +133,7 @@ shrunk_more before now next so_far held alike = record {
   alike = record { shapes = λ k. alike.shapes k ∙ so_far.alike.shapes k; last = alike.last ∙ so_far.alike.last };
 }
 
--- one move more, where the moves that are left are the last of the list
+-- one more move, where the moves that are left are the last of the list
 pub carried_on : (before now next : Housing) (moves : List EntityMove) (i : ℕ) (d m : EntityMove) → m ≡ get_or moves i d → i < length moves → AreCarried before moves now (drop i moves)
     → ((f : Shape) → shape_at now.tables m.to ≡ Some f → HoldAlike (holdings_of next) (with_moved (holdings_of now) m.entity f)) → StandAlike now.tables next.tables → TakesRoom m.to now.tables next.tables
     → AreCarried before moves next (drop (i + 1) moves)

@@ -48,7 +48,7 @@ abbrev pub with_all_moved : Store → List EntityMove → Holdings → Holdings
 with_all_moved s [] h = h
 with_all_moved s (m ∷ ms) h = with_all_moved s ms (with_moved h m.entity (shape_in s m.to))
 
--- one move more is planned, to a table of this shape
+-- one more move is planned, to a table of this shape
 pub record IsPlanned (s : Store) (old : List EntityMove) (e : EntityId) (f : Shape) (new : List EntityMove) : Type 0 where
   pub from : TableKey
   pub to : TableKey

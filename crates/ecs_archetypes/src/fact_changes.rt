@@ -192,7 +192,7 @@ impl<A: Allocator + Copy> Archetypes<A> {
         self.prepare(plan.ids.as_slice(), &plan.moves)
     }
 
-    // The table with one id more than this one, with room for the planned moves to it and for a row more.
+    // The table with one id more than this one, with room for the planned moves to it and for one more row.
     fn wider_beside(
         &mut self,
         from: TableKey,
@@ -212,7 +212,7 @@ impl<A: Allocator + Copy> Archetypes<A> {
         self.tables.wider(from, id, size, plan)
     }
 
-    // The table with one id less than this one, with room for the planned moves to it and for a row more.
+    // The table with one id less than this one, with room for the planned moves to it and for one more row.
     fn narrower_beside(
         &mut self,
         from: TableKey,

@@ -56,7 +56,7 @@ impl<A: Allocator + Copy> MovePlan<A> {
         self.counts.clear();
     }
 
-    /// One move more, at the end.
+    /// One more move, at the end.
     pub(crate) fn push(&mut self, one: EntityMove) -> Result<(), Memory>
         ensures pushed { OnOk result (self.new ≡ self.old ++ one ∷ []) }
         ensures refused { OnErr result (self.new ≡ self.old) }
@@ -82,7 +82,7 @@ impl<A: Allocator> MovePlan<A> {
         self.moves.as_slice()
     }
 
-    /// The room that a table needs for the moves to it and for a row more.
+    /// The room that a table needs for the moves to it and for one more row.
     pub(crate) fn rows_with_one_more(&self, key: TableKey) -> usize
         ensures enough { (q : TableKey) → q.serial ≡ key.serial → moves_to q self.now + 1 ≤ result }
         ensures few { result ≤ length self.now + 1 }
@@ -117,7 +117,7 @@ impl Room for OneRow {
     }
 }
 
-/// Room for the moves to the table that are planned, and for a row more.
+/// Room for the moves to the table that are planned, and for one more row.
 impl<A: Allocator> Room for MovePlan<A> {
     ghost wanted = { λ p q. moves_to q p + 1 };
 

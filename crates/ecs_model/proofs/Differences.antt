@@ -82,7 +82,7 @@ module _ {K : Type 0} (R : K → K → Ordering) (o : IsTotalOrder R) where
           ∙ ap (λ xs. e ∷ xs) rest
 
   module _ (same : (x y : K) → R x y ≡ Equal → x ≡ y) where
-    -- a key that was there is there with one value more
+    -- a key that was there is there with one more value
     pub still_held : {X : Type 0} (m : Map K X) (k : K) (x : X) (q : K) → has_key R m q ≡ true → has_key R (with_value R m k x) q ≡ true
     still_held m k x q h = elim (value_at-with_value R o same m k x q) [ inl p ↦ ap is_some p.1 | inr p ↦ ap is_some p.1 ∙ h ]
 

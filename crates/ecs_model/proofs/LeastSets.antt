@@ -87,7 +87,7 @@ module _ {K : Type 0} {R : K → K → Ordering} (o : IsTotalOrder R) (same : (x
     start_in zero x = itself_in x
     start_in (suc n) x = grown_keeps (within R next n x) x (start_in n x)
 
-    -- a step before the rounds counts as one round more
+    -- a step before the rounds counts as one more round
     step_before : (n : ℕ) (x z y : K) → Contains (next x) z → IsIn (within R next n z) y → IsIn (within R next (suc n) x) y
     unfolding within
     step_before zero x z y h i = rw (← one_member z y i) (grown_adds (with_member R [] x) x z (itself_in x) h)

@@ -114,7 +114,7 @@ module _ {K : Type 0} (R : K → K → Ordering) (o : IsTotalOrder R) where
       by Equal rest = refl
       by Greater rest = ap (cons_option (h y.0)) rest
 
-  -- a new value makes at most one key more
+  -- a new value makes at most one more key
   pub length-filter_map-with_value : {X Y : Type 0} (h : K → Option Y) (m : Map K X) (k : K) (x : X)
       → length (filter_map h (keys (with_value R m k x))) ≤ length (filter_map h (keys m)) + 1
   length-filter_map-with_value h [] k x = at_front (h k) []

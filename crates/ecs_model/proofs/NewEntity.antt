@@ -38,7 +38,7 @@ none_found test [] h = refl
 none_found test (x ∷ xs) h =
     let parts = both_true (test x) (list_all test xs) h in λ i. cond (not (parts.0 i)) (Some x) (none_found test xs parts.1 i)
 
--- of a map and one key more, the new key alone fails what all others pass
+-- of a map and one more key, the new key alone fails what all others pass
 new_found : {X : Type 0} (test : ℕ → Bool) (m : Map ℕ X) (k : ℕ) (x : X) → list_all test (keys m) ≡ true → test k ≡ false
     → find (λ j. not (test j)) (keys (with_value nat_cmp m k x)) ≡ Some k
 new_found test [] k x h new = ap (λ b. cond (not b) (Some k) None) new

@@ -20,7 +20,7 @@ ChainsAreShort = (next : ℕ → List ℕ) (n : ℕ) (live : List ℕ) → lengt
 abbrev pub ReachComposes : Type 0
 ReachComposes = (reflexive : Bool) (next : ℕ → List ℕ) (s t u : ℕ) → Reaches true reflexive next s t → Reaches true reflexive next t u → Reaches true reflexive next s u
 
--- where there is no cycle, a step more makes one exactly where its end leads back to its start, whether or not other steps go
+-- where there is no cycle, one more step makes one exactly where its end leads back to its start, whether or not other steps go
 abbrev pub StepsCloseChains : Type 0
 StepsCloseChains = (next : ℕ → List ℕ) → ¬ (HasCycle next) → (exclusive : Bool) (s t : ℕ) → HasCycle (after_step next exclusive s t) ↔ Reached next t s
 

@@ -20,7 +20,7 @@ pub fn reach_composes()
     ensures { ReachComposes }
 {}
 
-/// Law: where there is no cycle, a step more makes one exactly where its end leads back to its start, whether or not
+/// Law: where there is no cycle, one more step makes one exactly where its end leads back to its start, whether or not
 /// other steps go.
 pub fn steps_close_chains()
     ensures { StepsCloseChains }

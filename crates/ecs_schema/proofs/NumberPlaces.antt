@@ -48,7 +48,7 @@ number_in-number_bytes U16 (negsuc n) h = cc
 number_in-number_bytes U32 (negsuc n) h = cc
 number_in-number_bytes U64 (negsuc n) h = cc
 
--- the size, with one field more
+-- the size, with one more field
 pub size_of-more : (fs : Schema) (n : ℕ) (f : Field) → n < length fs → f ≡ get_or fs n f → size_of (take (n + 1) fs) ≡ size_of (take n fs) + width f.kind
 size_of-more fs n f h e = sum_by_more (λ g. width g.kind) fs n f h ∙ ap (λ (g : Field). size_of (take n fs) + width g.kind) (sym e)
 
@@ -95,7 +95,7 @@ all_fit-at (g ∷ fs) [] i f v t h k e d = absurd (omega arith)
 all_fit-at (g ∷ fs) (u ∷ vs) zero f v t h k e d = rw (e, d) (first_true _ _ t)
 all_fit-at (g ∷ fs) (u ∷ vs) (suc i) f v t h k e d = all_fit-at fs vs i f v (second_true _ _ t) (omega arith) (omega arith) e d
 
--- one number more
+-- one more number
 value_bytes-more : (fs : Schema) (vs : List ℤ) (i : ℕ) (f : Field) (v : ℤ) → i < length fs → i < length vs → f ≡ get_or fs i f → v ≡ get_or vs i v → value_bytes (take (suc i) fs) (take (suc i) vs) ≡ value_bytes (take i fs) (take i vs) ++ number_bytes f.kind v
 value_bytes-more [] vs i f v h k e d = absurd (omega arith)
 value_bytes-more (g ∷ fs) [] i f v h k e d = absurd (omega arith)
@@ -104,7 +104,7 @@ value_bytes-more (g ∷ fs) (u ∷ vs) (suc i) f v h k e d =
     ap (λ bs. number_bytes g.kind u ++ bs) (value_bytes-more fs vs i f v (omega arith) (omega arith) e d)
     ∙ sym (append_assoc (number_bytes g.kind u) (value_bytes (take i fs) (take i vs)) (number_bytes f.kind v))
 
--- the bytes after one number more was written
+-- the bytes after one more number was written
 pub value_bytes-written : (fs : Schema) (vs : List ℤ) (i : ℕ) (f : Field) (v : ℤ) (start : ℕ) (first bytes : List ℕ) → i < length fs → i < length vs → f ≡ get_or fs i f → v ≡ get_or vs i v → start ≡ size_of (take i fs) → bytes ≡ value_bytes (take i fs) (take i vs) ++ drop start first
     → put_mid start (start + width f.kind - start) bytes (number_bytes f.kind v) ≡ value_bytes (take (i + 1) fs) (take (i + 1) vs) ++ drop (start + width f.kind) first
 value_bytes-written fs vs i f v start first bytes h k e d s b =

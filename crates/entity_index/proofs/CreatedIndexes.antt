@@ -73,7 +73,7 @@ module _ {Z : Type 0} (slots : List EntitySlot) (places : List (Option Place)) (
         ∙ meaning-born slots (slots ++ s ∷ []) places last (length slots) unused (get_or_past slots (length slots) unused (omega arith)) (places ++ None ∷ []) (Changes-push unused slots s) stays
         ∙ ap (λ i. with_entity (meaning slots places last) (entity i)) len
 
-    -- a slot and a place more, and room for them in the heap
+    -- one more slot and place, and room for them in the heap
     pub fresh_well : (new_heap : BinaryHeap (Reverse ℕ) Z) → n ≤ last → heap_items new_heap ≡ heap_items heap → heap_len new_heap ≡ heap_len heap → n + 1 ≤ heap_capacity new_heap
         → (new : List EntitySlot) (new_places : List (Option Place)) → new ≡ slots ++ record { deletions = 0; live = true } ∷ [] → new_places ≡ places ++ None ∷ [] → IsWellFormed (meaning new new_places last)
     fresh_well new_heap within items count room new new_places e f =

@@ -108,7 +108,7 @@ module _ {Z : Type 0} (slots : List EntitySlot) (places : List (Option Place)) (
             few = omega (arith, count, len, sound.few);
           }
 
-    -- a slot more, of a live entity
+    -- one more slot, of a live entity
     pub IsSound-extend : length slots ≤ last → heap_items new_heap ≡ heap_items heap → heap_len new_heap ≡ heap_len heap → length slots + 1 ≤ heap_capacity new_heap
         → IsSound (slots ++ record { deletions = 0; live = true } ∷ []) (places ++ None ∷ []) new_heap last
     IsSound-extend within items len room =

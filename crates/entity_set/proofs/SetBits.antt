@@ -66,7 +66,7 @@ others_are words others =
     (λ i. filter (λ x. not (any_members others x i)) (members words))
     ∙ filter_twice (has_bit words) (λ x. not (has_bit others x)) (range_with_len 0 (64 * length words))
 
--- one word more
+-- one more word
 pub others_more : (words others : List ℕ) (place : ℕ) (found more : List ℕ) → found ≡ filter (has_else words others) (range_with_len 0 (64 * place))
     → more ≡ found ++ filter (has_else words others) (indexes_of place) → more ≡ filter (has_else words others) (range_with_len 0 (64 * (place + 1)))
 unfolding indexes_of

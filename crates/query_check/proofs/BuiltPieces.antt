@@ -1,4 +1,4 @@
--- The pieces of the checked query, one part more at a time.
+-- The pieces of the checked query, one part at a time.
 use Rattle.std.specs.Prelude.{◌≡◌, ℕ, ◌+◌, ◌<◌, ◌≤◌, List, [], ◌∷◌, ◌++◌, map, Option, Some, None, drop, flat_map, fold, length, Bool}
 use Rattle.std.proofs.lemmas.List.{append-nil, append_assoc, drop_all, drop_more, get_or-map, length-map}
 use Rattle.std.proofs.lemmas.List.Sums.{fold-append}
@@ -19,7 +19,7 @@ use Rattle.query_model.specs.Uses.{Use}
 use Rattle.query_check.proofs.PartReferences.{HasLeft, IsFollowedAt, by_level, followed-length, no_alternative, none_left, one_alternative, one_less, placed-length}
 use Rattle.query_check.proofs.VariableRoots.{part_rooted}
 
--- what is added for one part more, where the code knows its level alone
+-- what is added for one more part, where the code knows its level alone
 pub part_built : {X : Type 0} (f : Path → List TermSyntax → Part → List X) (ps : List Part) (i : ℕ) (p : Part) (q : PartPlace) (others : List TermSyntax) (places : List PartPlace) (start now next : List X) → places ≡ places_of ps
     → HasLeft (λ r. f (r.0).0 r.1 (r.0).1) (with_alternatives (placed_parts ps)) i start now → IsFollowedAt ps i p q others
     → ((path : Path) → q.level ≡ level_of path → IsRooted places path → next ≡ now ++ f path others p) → HasLeft (λ r. f (r.0).0 r.1 (r.0).1) (with_alternatives (placed_parts ps)) (i + 1) start next

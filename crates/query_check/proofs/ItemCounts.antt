@@ -1,4 +1,4 @@
--- The item at a place of what the items of a list make, one item more at a time.
+-- The item at a place of what the items of a list make, one item at a time.
 use Rattle.std.specs.Prelude.{◌≡◌, ℕ, suc, ◌+◌, ◌-◌, ◌<◌, ◌≤◌, List, [], ◌∷◌, ◌++◌, flat_map, drop, take, length, bytes_eq, Bool, true, false, if◌then◌else◌}
 use Rattle.std.specs.List.{list_any}
 use Rattle.std.proofs.Common.{ap, sym, ◌∙◌, get_or, arith}

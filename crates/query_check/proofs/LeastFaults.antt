@@ -1,4 +1,4 @@
--- The least of lists of faults, one item more at a time.
+-- The least of lists of faults, one item at a time.
 use Rattle.std.specs.Prelude.{◌≡◌, ℕ, ◌+◌, ◌<◌, List, [], ◌∷◌, ◌++◌, map, flat_map, drop, length, Option, None}
 use Rattle.std.proofs.Common.{ap, sym, ◌∙◌, get_or}
 use Rattle.std.proofs.lemmas.List.{drop_more, get_or-map, length-map}
@@ -35,7 +35,7 @@ pub one_seen_judged : {X Y : Type 0} (view : Y → X) (f : X → List Fault) (ys
 one_seen_judged view f ys i found least next more d j h same e =
     one_judged f (map view ys) i found least next more (view d) j (rw (length-map ys view) h) (ap f (get_or-map view ys i d (view d) h) ∙ same) e
 
--- the depth of one part more
+-- the depth of one more part
 pub depth_judged : (ps : List Part) (i : ℕ) (p : Part) (q : PartPlace) (found least next : Option Fault) (more : List Fault) → IsJudging too_deep_part (placed_parts ps) i found least → IsPartAt ps i p q
     → ((path : Path) → length path ≡ q.depth → more ≡ too_deep path p) → next ≡ least_from least more → IsJudging too_deep_part (placed_parts ps) (i + 1) found next
 depth_judged ps i p q found least next more j at deep e =

@@ -67,7 +67,7 @@ part_at ps i p places d e h same =
       place = sym (get_or-map place_of_part (placed_parts ps) i ([], p) d within) ∙ ap (λ qs. get_or qs i d) (sym e);
     }
 
--- the references of one part more
+-- the references of one more part
 pub part_used : (ps : List Part) (i : ℕ) (p : Part) (q : PartPlace) (start now next : List (ℕ × Use)) → HasLeft level_uses_of (placed_parts ps) i start now → IsPartAt ps i p q
     → next ≡ now ++ map (at_level q.level) (uses_of p) → HasLeft level_uses_of (placed_parts ps) (i + 1) start next
 part_used ps i p q start now next l at e =

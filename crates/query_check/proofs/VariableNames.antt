@@ -1,4 +1,4 @@
--- The names of variables, counted one occurrence more at a time.
+-- The names of variables, counted one occurrence at a time.
 use Rattle.std.specs.Prelude.{◌≡◌, ℕ, ◌+◌, ◌-◌, ◌<◌, ◌≤◌, suc, Bool, true, false, List, [], ◌∷◌, ◌++◌, map, drop, length, bytes_eq, if◌then◌else◌}
 use Rattle.std.specs.List.{list_any}
 use Rattle.std.proofs.Common.{Bor, ap, sym, ◌∙◌, get_or, arith, length-append}

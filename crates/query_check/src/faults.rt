@@ -57,7 +57,7 @@ pub(crate) fn of_uses<W: Lookup>(world: &W, uses: &[Use<'_>], found: Option<Faul
     least
 }
 
-/// Looks at one reference more.
+/// Looks at one more reference.
 fn add_use<W: Lookup>(world: &W, used: &Use<'_>, least: &mut Option<Fault>)
     requires { IsFound (W.known world.now) used.now }
     ensures { least.new ≡ least_from least.old (faults_of_use (W.known world.now) (seen_use used.now).1) }

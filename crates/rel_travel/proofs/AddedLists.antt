@@ -23,7 +23,7 @@ grown_so ys old new is = rw is (grown_finds ys old)
 pub finds_then : (old mid new xs ys : List ℕ) → mid ≡ with_finds old xs → new ≡ with_finds mid ys → new ≡ with_finds old (xs ++ ys)
 finds_then old mid new xs ys is now = now ∙ ap (λ zs. with_finds zs ys) is ∙ sym (fold-append with_find old xs ys)
 
--- one id more, by whether it is a pair of the relationship
+-- one more id, by whether it is a pair of the relationship
 pub found_target : (ids : List Id) (r k : ℕ) (i : Id) (y : ℕ) (old mid new : List ℕ) → k < length ids → i ≡ get_or ids k i → target_under r i ≡ Some y
     → mid ≡ with_finds old (targets_in (take k ids) r) → new ≡ with_find mid y → new ≡ with_finds old (targets_in (take (k + 1) ids) r)
 found_target ids r k i y old mid new l e t is now = rw (targets_more ids r k i i l e, t) (finds_then old mid new (targets_in (take k ids) r) (y ∷ []) is now)
@@ -32,12 +32,12 @@ pub found_no_target : (ids : List Id) (r k : ℕ) (i : Id) (old mid : List ℕ) 
     → mid ≡ with_finds old (targets_in (take k ids) r) → mid ≡ with_finds old (targets_in (take (k + 1) ids) r)
 found_no_target ids r k i old mid l e t is = rw (targets_more ids r k i i l e, t, append-nil (targets_in (take k ids) r)) is
 
--- one row more
+-- one more row
 pub found_row : {E : Type 0} (f : E → ℕ) (es : List E) (k : ℕ) (d : E) (old mid new : List ℕ) → k < length es
     → mid ≡ with_finds old (map f (take k es)) → new ≡ with_find mid (f (get_or es k d)) → new ≡ with_finds old (map f (take (k + 1) es))
 found_row f es k d old mid new l is now = rw (take_more es k d l, map-append f (take k es) (get_or es k d ∷ [])) (finds_then old mid new (map f (take k es)) (f (get_or es k d) ∷ []) is now)
 
--- one table more
+-- one more table
 pub found_table : {T : Type 0} (rows : T → List ℕ) (ts : List T) (k : ℕ) (d : T) (added old mid new : List ℕ) → k < length ts → added ≡ rows (get_or ts k d)
     → mid ≡ with_finds old (flat_map rows (take k ts)) → new ≡ with_finds mid added → new ≡ with_finds old (flat_map rows (take (k + 1) ts))
 found_table rows ts k d added old mid new l e is now =

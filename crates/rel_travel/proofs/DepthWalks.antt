@@ -151,7 +151,7 @@ module _ {size : ℕ} {entities : List ℕ} {ids : ℕ → List Id} (links : Are
   pub way_is_short : (start : ℕ) (f : Step) (fs : List Step) → start < size → IsWay (upward ids r) start (f ∷ fs) → length fs < size
   way_is_short start f fs low w = chain_is_less start (length fs) f.index low (way_chain (upward ids r) start f fs w)
 
-  -- one word more
+  -- one more word
   pub more_numbers : (words : List ℕ) (s w : ℕ) → s < length words → w ≡ depth ids entities r s + 1 → AreNumbers (depth ids entities r) words → AreNumbers (depth ids entities r) (set words s w)
   more_numbers words s w low e are i some =
       elim (cases_eq i s) [
@@ -196,7 +196,7 @@ below_more size found s low all i h =
       | inr this ↦ elim (Contains-push_cases [] s i this) [ inl none ↦ absurd (omega (arith, none.1)) | inr same ↦ subst (λ k. k < size) same low ]
     ]
 
--- the targets so far, with one id more
+-- the targets so far, with one more id
 module _ (ids : List Id) (r k : ℕ) (i : Id) (low : k < length ids) (is : i ≡ get_or ids k i) where
   targets_with : (y : ℕ) → target_under r i ≡ Some y → targets_in (take (k + 1) ids) r ≡ targets_in (take k ids) r ++ y ∷ []
   targets_with y e = rw (targets_more ids r k i i low is, e) refl

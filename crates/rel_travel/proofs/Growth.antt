@@ -89,6 +89,6 @@ find_at false added old new y e g = rw e (IsGrownBy-push added old new y g)
 pub IsGrownBy-find : (added old new : List ℕ) (y : ℕ) → IsGrownBy added old new → IsGrownBy (added ++ y ∷ []) old (with_find new y)
 IsGrownBy-find added old new y g = find_at (is_among new y) added old new y refl g
 
--- the targets among one id more
+-- the targets among one more id
 pub targets_more : (ids : List Id) (r k : ℕ) (i d : Id) → k < length ids → i ≡ get_or ids k d → targets_in (take (k + 1) ids) r ≡ targets_in (take k ids) r ++ targets_in (i ∷ []) r
 targets_more ids r k i d l e = rw (take_more ids k d l, ← e) (filter_map-append (target_under r) (take k ids) (i ∷ []))

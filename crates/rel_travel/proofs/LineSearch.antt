@@ -53,7 +53,7 @@ module _ (ids : ℕ → List Id) (r : ℕ) (hit : ℕ → Bool) (line : ℕ → 
     pub passed : ArePassed items fs
     pub missed : (v : ℕ) → Contains items v → (hit v ≡ false) × (IsOn fs v ⊎ IsClear v)
 
-  -- after one id more of the last step's entity
+  -- after one more id of the last step's entity
   abbrev pub onward : Step → Step
   onward f = record { index = f.index; place = f.place + 1 }
 

@@ -17,7 +17,7 @@ use Rattle.rel_travel.specs.Outside.{is_outside, outside_holders, outside_referr
 use Rattle.rel_travel.specs.Referring.{mentions_any, referrers}
 use Rattle.rel_travel.proofs.Growth.{IsGrownBy-find, is_among_tells}
 
--- one row more, where those outside are added
+-- one more row, where those outside are added
 pub outside_more : {E : Type 0} (f : E → ℕ) (members : List ℕ) (es : List E) (k : ℕ) (d : E) → k < length es
     → filter (is_outside members) (map f (take (k + 1) es)) ≡ filter (is_outside members) (map f (take k es)) ++ filter (is_outside members) (f (get_or es k d) ∷ [])
 outside_more f members es k d l = rw (take_more es k d l, map-append f (take k es) (get_or es k d ∷ [])) (filter-append (is_outside members) (map f (take k es)) (f (get_or es k d) ∷ []))

@@ -10,7 +10,7 @@ use Rattle.rel_travel.specs.Growing.{IsGrownBy}
 use Rattle.rel_travel.proofs.Growth.{IsGrownBy-then}
 use Rattle.ecs_model.proofs.Members.{in_flat_map}
 
--- one table more
+-- one more table
 pub table_added : {T : Type 0} (rows : T → List ℕ) (ts : List T) (k : ℕ) (d : T) (added old mid new : List ℕ) → k < length ts → added ≡ rows (get_or ts k d) → IsGrownBy (flat_map rows (take k ts)) old mid → IsGrownBy added mid new
     → IsGrownBy (flat_map rows (take (k + 1) ts)) old new
 table_added rows ts k d added old mid new l e f g =
@@ -26,7 +26,7 @@ rows_below rows ts i d n f es l e below k x in' =
     there : Contains (map f es) (f (get_or es k x))
     there = (k, rw length-map in', get_or-map f es k (get_or es k x) ∙ ap f (get_or_default es k (get_or es k x) x in'))
 
--- one item of a slice more, and all of them
+-- one more item of a slice, and all of them
 module _ (bring : ℕ → List ℕ) (all items : List ℕ) (is : items ≡ all) (k : ℕ) (old found : List ℕ) where
   pub item_added : (new : List ℕ) → k < length items → IsGrownBy (flat_map bring (take k all)) old found → IsGrownBy (bring (get_or items k 0)) found new → IsGrownBy (flat_map bring (take (k + 1) all)) old new
   item_added new l f g = table_added bring all k 0 (bring (get_or items k 0)) old found new (omega (arith, ap length is)) (ap (λ xs. bring (get_or xs k 0)) is) f g

@@ -65,7 +65,7 @@ module _ (next : ℕ → List ℕ) where
       → IsSoughtFrom next x is_alone found done → IsSoughtFrom next x is_alone grown more
   sought_on x is_alone found grown done more goes_on s = record { left = s.left; closed = s.closed; none = s.none; followed = goes_on (x ∷ s.left) s.followed }
 
-  -- one step more, of whoever began
+  -- one more step, of whoever began
   pub sought_more : (start : Option ℕ) (is_alone : Bool) (items grown : List ℕ) (done : ℕ) → done < length items → IsGrownBy (next (get_or items done 0)) items grown → IsSought next start is_alone items done
       → IsSought next start is_alone grown (done + 1)
   sought_more None is_alone items grown done l g s = tt

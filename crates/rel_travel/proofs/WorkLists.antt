@@ -16,7 +16,7 @@ module _ {A : Type 0} where
     closed = λ k d l. absurd (omega arith);
   }
 
-  -- what is reached from a start, followed one step more
+  -- what is reached from a start, followed one more step
   one_more_step : (next : A → List A) (start : List A) (y z : A) → IsReachedFrom next start y → Contains (next y) z → IsReachedFrom next start z
   one_more_step next start y z r h = (r.0, r.1, onward r.2 h)
 

@@ -20,6 +20,6 @@ next_item : {A B : Type 0} (f : A → Option B) (xs : List A) (ys : List B) (res
 next_item f xs ys rest x behind o h e fx =
     h ∙ ap (λ r. option_map (λ zs. ys ++ zs) (all_of f r)) e ∙ ap (λ a. option_map (λ zs. ys ++ zs) (option_and_then (λ y. option_map (λ zs. y ∷ zs) (all_of f behind)) a)) fx
 
--- one item more
+-- one more item
 pub read_more : {A B : Type 0} (f : A → Option B) (xs : List A) (ys : List B) (rest : List A) (x : A) (behind : List A) (y : B) → IsReadSoFar f xs ys rest → rest ≡ x ∷ behind → f x ≡ Some y → IsReadSoFar f xs (ys ++ y ∷ []) behind
 read_more f xs ys rest x behind y h e fx = next_item f xs ys rest x behind (Some y) h e fx ∙ joined ys y (all_of f behind)

@@ -5,7 +5,7 @@ use Rattle.script_streams.specs.declared.streams.Stop.{Stop}
 use Rattle.script_streams.specs.declared.streams.Stop.TheVariants.{Interrupted, Failed}
 use Rattle.script_streams.specs.declared.streams.Calls.{Calls}
 
--- a call more was interrupted; from 65 on they are counted no further
+-- one more call was interrupted; from 65 on they are counted no further
 abbrev pub interrupted : Calls → Calls
 interrupted c = record c { interruptions = min (c.interruptions + 1) 65 }
 

@@ -34,7 +34,7 @@ impl Calls {
         has_failed: false,
     };
 
-    /// One read more.
+    /// One more read.
     pub fn count_read(&mut self, answer: Result<usize, Stop>)
         ensures { self.new ≡ after_read answer self.old }
     {

@@ -139,7 +139,7 @@ only_one : (k q : TableKey) (i : ℕ) → i < length (k ∷ []) → slice_index_
 only_one k q zero lt e = e
 only_one k q (suc i) lt e = absurd (omega (arith, lt))
 
--- a key more, at the end
+-- one more key, at the end
 pub order_pushed : (s n : Store) (keys now : List TableKey) (k : TableKey) → IsOrder s keys → ((q : TableKey) → IsSome (table_at n q) → (q ≡ k) ⊎ IsSome (table_at s q)) → s.last < k.serial → n.last ≡ k.serial
     → length n.tables ≡ length s.tables + 1 → now ≡ keys ++ k ∷ [] → IsOrder n now
 order_pushed s n keys now k order was newer last more e = subst (IsOrder n) (sym e) (record {

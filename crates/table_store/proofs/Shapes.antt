@@ -154,7 +154,7 @@ small_sizes [] h k lt = absurd (omega (arith, lt))
 small_sizes (c ∷ f) h zero lt = h 0
 small_sizes (c ∷ f) h (suc k) lt = small_sizes f (λ j. h (suc j)) k (omega (arith, lt))
 
--- what an entry is that stands in a shape with one id more
+-- what an entry is that stands in a shape with one more id
 pub get_put : (i : Id) (n : ℕ) (es : Shape) (j : ℕ) (c : Id × ℕ) → slice_get (put id_cmp i n es) j ≡ Some c → ((c.0 ≡ i) × (c.1 ≡ n)) ⊎ ((m : ℕ) × (slice_get es m ≡ Some c))
 get_put i n [] zero c e = inl (ap (λ v. v.0) (sym (one_some (i, n) c e)), ap (λ v. v.1) (sym (one_some (i, n) c e)))
 get_put i n [] (suc j) c e = absurd (none_is_some c e)

@@ -120,12 +120,12 @@ pub record IsPut {E : Type 0} (s : Store) (f : Shape) (r : Result TableKey E) (n
   pub err : OnErr r (n ≡ s)
   pub whole : IsStored n
 
--- the shape with one id more, where a size of it is given, or with one less
+-- the shape with one more id, where a size of it is given, or with one less
 abbrev pub stepped : Shape → Id → Option ℕ → Shape
 stepped f i None = without_id f i
 stepped f i (Some n) = with_id f i n
 
--- the edges of a slot to tables with one id more, or with one less
+-- the edges of a slot to tables with one more id, or with one less
 abbrev pub edges_of : {Y : Type 0} → TableSlot Y → Option ℕ → Edges Y
 edges_of x None = x.less
 edges_of x (Some n) = x.more

@@ -62,7 +62,7 @@ shaped_at s k f q = if table_eq q k then Some f else shape_at s q
 abbrev pub shaped : Shape → Archetype
 shaped f = empty_table (map (λ c. c.0) f) (map (λ c. c.1) f)
 
--- a shape with one id more, and with one less
+-- a shape with one more id, and with one less
 abbrev pub with_id : Shape → Id → ℕ → Shape
 with_id f i n = put id_cmp i n f
 

@@ -4,7 +4,7 @@
 //! let (position, frozen) = (Id::plain(64), Id::plain(65));
 //! let mut store = TableStore::new(rt.alloc(), RandomState::new(&rt)?);
 //!
-//! // a table by its ids, each with how many bytes its value has, and its neighbour with a tag more
+//! // a table by its ids, each with how many bytes its value has, and its neighbour with one more tag
 //! let moving = store.find_or_make(&[SizedId::new(position, 8)])?;
 //! let still = store.with(moving, frozen, 0)?;
 //!

@@ -14,7 +14,7 @@ use list_growth::push;
 use smallvec::SmallVec;
 use std::alloc::{AllocError, Allocator};
 
-/// Makes the list the shape of a table with one id more, where a size of it is given, or with one less.
+/// Makes the list the shape of a table with one more id, where a size of it is given, or with one less.
 pub fn next_shape<A: Allocator>(
     cells: &mut Vec<SizedId, A>,
     table: &Table<A>,

@@ -206,7 +206,7 @@ impl<A: Allocator + Copy> TableStore<A> {
         self.step(key, id, None)
     }
 
-    // The table with one id more, where a size of it is given, or with one less.
+    // The table with one more id, where a size of it is given, or with one less.
     fn step(&mut self, key: TableKey, id: Id, added: Option<usize>) -> Result<TableKey, Memory>
         requires stands { IsSome (table_at self.old key) }
         requires small { IfSome added (λ n. n ≤ 64) }

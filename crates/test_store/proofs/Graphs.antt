@@ -82,7 +82,7 @@ live_tells rows x n is more = (
   λ h. let p = in_down (length rows - 1) x h in let l : x < n = omega (arith, is, p.0, p.1) in grind (arith, nat_tests, l),
 )
 
--- one row more whose pairs lead down
+-- one more row whose pairs lead down
 pub fallen_more : {Y : Type 0} (rows : Rows) (vs : List (Vec Id Y)) (k index : ℕ) (v : Vec Id Y) → rows_in vs ≡ rows → index < length vs → v ≡ get_or vs index v → FallBelow index v.items
     → ((j : ℕ) → j < index → FallBelow j (row_at rows j)) → k < index + 1 → FallBelow k (row_at rows k)
 fallen_more rows vs k index v is l read fall before m =

@@ -156,7 +156,7 @@ pub fn empty_rows(alloc: Global, count: usize) -> Result<Vec<Vec<Id>>, AllocErro
     Ok(rows)
 }
 
-/// One id more, where there is a row.
+/// One more id, where there is a row.
 pub fn give(rows: &mut Vec<Vec<Id>>, entity: usize, id: Id) -> Result<(), AllocError> {
     if let Some(row) = rows.get_mut(entity) {
         row.push(id)?;

@@ -44,7 +44,7 @@ impl<A: Allocator + Copy> Sized<A> {
             .find_or_make(&[SizedId::new(position, 4), SizedId::tag(tag)])
     }
 
-    /// The table with an id more. Of a key that is gone it answers Memory, which no test expects there.
+    /// The table with one more id. Of a key that is gone it answers Memory, which no test expects there.
     pub fn with(&mut self, key: TableKey, id: Id) -> Result<TableKey, Memory> {
         if self.store.get(key).is_none() {
             return Err(Memory);

@@ -213,11 +213,11 @@ visible_judged only q ts ps n ids i judged asked pieces count are =
     ∙ not_both (list_all p all) (groups_idle only ts ids i ps)
     ∙ ap not (idle_left only q ts ps n ids i asked pieces count)
 
--- and where the own variables of one group more are
+-- and where the own variables of one more group are
 pub group_judged : (before own left : Bool) → ((before || not own) || not left) ≡ (before || not (own && left))
 group_judged before own left = or_assoc before (not own) (not left) ∙ ap (λ b. before || b) (not_both own left)
 
--- one number more
+-- one more number
 pub counted_more : (p : ℕ → Bool) (n k : ℕ) → k < n → list_any p (take (k + 1) (range_with_len 0 n)) ≡ (list_any p (take k (range_with_len 0 n)) || p k)
 counted_more p n k low =
     let itself : 0 + k ≡ k = omega arith in

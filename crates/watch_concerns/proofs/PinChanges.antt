@@ -88,7 +88,7 @@ module _ (change : ℕ → ℕ) where
   changed_alone [] w = refl
   changed_alone (m ∷ ms) w = changed_alone ms (with_pins w change (m.entity).index)
 
--- ---- one stored query more
+-- ---- one more stored query
 
 -- the count of an entity that is mentioned once is one more, unless it is the greatest, and others stay
 pub pinned_once : (w : WorldState) (ms : List Mention) (i : ℕ) → times_in i ms ≤ 1

@@ -121,7 +121,7 @@ module _ (ws : List Word) (i b : ℕ) (place : IsWordOf ws b i) (v : Word) (own 
     full = All-set IsFull ws i v full are.full;
   }
 
--- with one number more
+-- with one more number
 module _ (ws : List Word) (i : ℕ) (within : i < length ws) (v d : Word) (number : ℕ) (more : (n : ℕ) → has (numbers_of v) n ≡ cond (number == n) true (has (numbers_of (get_or ws i d)) n)) where
   pub more_in : (n : ℕ) → has (numbers_in (set ws i v)) n ≡ cond (number == n) true (has (numbers_in ws) n)
   more_in n = by (number == n) refl
@@ -175,7 +175,7 @@ module _ (ws : List Word) (rise : AllPairs IsBefore ws) (i number : ℕ) (place 
       ∙ sym (has_among (set ws i v) n)
       ∙ less_in n
 
--- ---- a word more
+-- ---- one more word
 joined : (t h : Bool) → (cond t true false || h) ≡ cond t true h
 joined true h = refl
 joined false h = refl

@@ -1,4 +1,4 @@
--- What a mark more changes, and that marks stay true to the lists.
+-- What one more mark changes, and that marks stay true to the lists.
 use Rattle.std.specs.Prelude.{◌==◌, ◌&&◌, ◌||◌, not, unwrap_or}
 use Rattle.std.specs.Int.{bit_at}
 use Rattle.std.specs.Map.{lookup}

@@ -75,7 +75,7 @@ module _ {X : Type 0} (number : X → ℕ) (occasions : X → List Occasion) (xs
   pub none_placed : HavePlaces [] []
   none_placed i d l c = absurd (omega (arith, c.1))
 
-  -- one number more, whose value stands somewhere or nowhere
+  -- one more number, whose value stands somewhere or nowhere
   module _ (rise : AllPairs (λ a b. number a < number b) xs) (ns places : List ℕ) (j : ℕ) (n e : ℕ) (is : n ≡ slice_index_or ns j e) (within : j < length ns)
       (have : HavePlaces (take j ns) places) where
     next : take (j + 1) ns ≡ take j ns ++ n ∷ []

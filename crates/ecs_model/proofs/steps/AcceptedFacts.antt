@@ -187,7 +187,7 @@ keeps_add w e i h r =
     let live = facts_live_after w e.index i (new_base w e.index i) facts h a ok.may in
     addition_keeps w e.index i (new_base w e.index i) facts h a ok.may ok.room (few_ids w facts live ok.few) (none_closes (with_facts w facts) live ok.acyclic)
 
--- an accepted `set` leaves a well-formed world: it holds what `add` leaves, with one value more
+-- an accepted `set` leaves a well-formed world: it holds what `add` leaves, with one more value
 pub keeps_set : (w : WorldState) (e : EntityId) (i : Id) (vs : List ℤ) → IsWellFormed w → first_reason (reasons w (SetValue e i vs)) ≡ None
     → IsWellFormed (counted (effect w (SetValue e i vs)))
 unfolding effect

@@ -45,7 +45,7 @@ module _ (w : WorldState) where
   abbrev pub with_facts : Map Key (List ℤ) → WorldState
   with_facts facts = record w { facts = facts }
 
-  -- with one accepted command more
+  -- with one more accepted command
   abbrev pub counted : WorldState
   counted = record w { accepted = w.accepted + 1 }
 
@@ -73,7 +73,7 @@ module _ (w : WorldState) where
 abbrev pub name_reasons : WorldState → List ℕ → List (Bool × Refusal)
 name_reasons w n = (not (is_name n), BadName) ∷ (is_some (named w n), NameTaken) ∷ []
 
--- the reasons against one entity more
+-- the reasons against one more entity
 abbrev pub birth_reasons : WorldState → List (Bool × Refusal)
 birth_reasons w = (is_none (next_entity w) || is_spent w, Full) ∷ []
 

@@ -16,7 +16,7 @@ abbrev pub with_count : Map ℕ ℕ → ℕ → ℕ → Map ℕ ℕ
 with_count m i zero = without nat_cmp m (λ j. j == i)
 with_count m i (suc n) = with_value nat_cmp m i (suc n)
 
--- the count after one query more
+-- the count after one more query
 abbrev pub one_more : ℕ → ℕ
 one_more n = if n == most_pins then n else n + 1
 
@@ -28,7 +28,7 @@ module _ (w : WorldState) where
   abbrev pub with_pins : (ℕ → ℕ) → ℕ → WorldState
   with_pins change i = record w { pins = with_count w.pins i (change (count_at w.pins i)) }
 
-  -- one stored query more mentions the entity: refused of a dead one
+  -- one more stored query mentions the entity: refused of a dead one
   unfoldable pub pin : EntityId → Result WorldState Refusal
   pin e = if is_alive w e then Ok (with_pins one_more e.index) else Err Dead
 

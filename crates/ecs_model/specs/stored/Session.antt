@@ -48,7 +48,7 @@ most_stored = 1024
 abbrev pub Answer : Type 0
 Answer = Result (SessionState × Option EntityId) SessionRefusal
 
--- one stored query more mentions these
+-- one more stored query mentions these
 abbrev pub pinned_by : WorldState → List Mention → WorldState
 pinned_by w ms = fold (λ v m. with_pins v one_more (m.entity).index) w ms
 

@@ -1,4 +1,4 @@
--- A piece more at each turn.
+-- One more piece at each turn.
 use Rattle.std.proofs.Common.{◌∙◌, ap, subst, sym}
 use Rattle.query_check.specs.Seen.{seen_item, seen_piece}
 use Rattle.query_cache.proofs.PatternWalks.{IsWalking, all_walked, closed_one, item_one, none_walked, opened_one, past_all, piece_at, same_patterns}

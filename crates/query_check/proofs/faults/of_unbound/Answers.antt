@@ -1,4 +1,4 @@
--- An occurrence more at each turn.
+-- One more occurrence at each turn.
 use Rattle.std.proofs.Common.{[], get_or, map, refl}
 use Rattle.query_check.specs.declared.scope.Occurrence.{Occurrence}
 use Rattle.query_model.specs.Check.{unbound}

@@ -1,4 +1,4 @@
--- A reference more at each turn.
+-- One more reference at each turn.
 use Rattle.std.proofs.Common.{refl}
 use Rattle.query_check.specs.Seen.{seen_use}
 use Rattle.query_model.specs.Check.{faults_of_use}

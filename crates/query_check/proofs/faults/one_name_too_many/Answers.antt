@@ -1,4 +1,4 @@
--- An occurrence more at each turn.
+-- One more occurrence at each turn.
 use Rattle.std.proofs.Common.{◌≡◌, ◌<◌, ◌∙◌, [], ap, sym, get_or, length, map, List, ℕ, Bor, arith, subst}
 use Rattle.std.proofs.lemmas.List.{length-map, get_or-map}
 use Rattle.std.specs.Prelude.{bytes_eq, ◌+◌}

@@ -1,4 +1,4 @@
--- A part more at each turn.
+-- One more part at each turn.
 use Rattle.std.proofs.Common.{◌≡◌, ◌+◌, ◌<◌, ◌∙◌, ap, arith, get_or, length, map, refl, subst, sym, ℕ}
 use Rattle.std.specs.Prelude.{option_to_list}
 use Rattle.std.proofs.lemmas.List.{get_or-map, length-map}

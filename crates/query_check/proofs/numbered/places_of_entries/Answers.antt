@@ -1,4 +1,4 @@
--- A piece more at each turn.
+-- One more piece at each turn.
 use Rattle.std.proofs.Common.{◌<◌, ◌∙◌, ap, sym, refl, length, map}
 use Rattle.std.proofs.lemmas.List.{length-map}
 use Rattle.query_check.specs.Numbered.{level_around}

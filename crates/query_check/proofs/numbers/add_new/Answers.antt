@@ -1,4 +1,4 @@
--- A variable more at each turn.
+-- One more variable at each turn.
 use Rattle.std.proofs.Common.{◌≡◌, ◌<◌, ◌+◌, ◌∙◌, [], ap, get_or, length, map, subst, sym, List}
 use Rattle.std.proofs.lemmas.List.{length-map, get_or-map, map-append}
 use Rattle.std.specs.List.{list_any}

@@ -1,4 +1,4 @@
--- An occurrence more at each turn, and then each variable once.
+-- One more occurrence at each turn, and then each variable once.
 use Rattle.std.proofs.Common.{◌∙◌, [], ap, get_or, map, sym}
 use Rattle.query_check.specs.declared.scope.Occurrence as code
 use Rattle.query_check.specs.Seen.{seen_variable, seen_occurrence}

@@ -1,4 +1,4 @@
--- A part more at each turn.
+-- One more part at each turn.
 use Rattle.std.proofs.Common.{◌<◌, ◌∙◌, ap, map, get_or, length}
 use Rattle.std.proofs.lemmas.List.{get_or-map, length-map}
 use Rattle.query_check.proofs.AbsentElements.{no_part}

@@ -1,4 +1,4 @@
--- An alternative more at each turn.
+-- One more alternative at each turn.
 use Rattle.std.proofs.Common.{◌<◌, ◌∙◌, ap, get_or, length, map, sym}
 use Rattle.std.specs.Prelude.{option_map}
 use Rattle.std.proofs.lemmas.List.{get_or-map, length-map}

@@ -1,4 +1,4 @@
--- A reference more at each turn.
+-- One more reference at each turn.
 use Rattle.std.proofs.Common.{map, refl}
 use Rattle.std.proofs.lemmas.List.{length-map}
 use Rattle.query_check.specs.Seen.{seen_use}

@@ -1,4 +1,4 @@
--- A part more at each turn.
+-- One more part at each turn.
 use Rattle.std.proofs.Common.{◌+◌, ◌<◌, [], get_or, length, map}
 use Rattle.std.proofs.lemmas.List.{get_or-map, length-map}
 use Rattle.query_check.specs.Places.{place_of}

@@ -1,4 +1,4 @@
--- The table with one id more is entered, and all tables keep their sizes.
+-- The table with one more id is entered, and all tables keep their sizes.
 use Rattle.std.proofs.Common.{◌∙◌, ◌∷◌, [], ap, subst, sym}
 use Rattle.std.specs.Option.{IsSome}
 use Rattle.table_store.specs.Store.{shape_at, table_at, with_id}

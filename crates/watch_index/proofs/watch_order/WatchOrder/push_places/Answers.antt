@@ -1,4 +1,4 @@
--- The place of one number more is found, or none has it.
+-- The place of one more number is found, or none has it.
 use Rattle.std.specs.Prelude.{All}
 use Rattle.std.specs.List.{AllPairs}
 use Rattle.std.proofs.Common.{◌≡◌, ◌+◌, ◌<◌, ◌∙◌, [], ◌∷◌, ◌++◌, List, ap, arith, length, refl, subst, sym, take}
