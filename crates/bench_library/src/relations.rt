@@ -72,7 +72,7 @@ fn parents(world: &World) -> (i128, u64) {
     (sum, children)
 }
 
-/// Tells of the parents in a tree.
+/// Grows a tree, and answers what `parents` finds.
 pub fn tree(world: &mut World, count: u32) -> Result<(i128, u64), Fault> {
     grow(world, count)?;
     Ok(parents(world))
@@ -115,7 +115,7 @@ fn remove_pair(world: &mut World, one: EntityId, pair: Id) -> Result<usize, Faul
     Ok(went)
 }
 
-/// Adds a pair, and every other time removes it again. Tells how many facts came and how many went.
+/// Adds a pair, and every other time removes it again. Answers how many facts came and how many went.
 pub fn pairs(world: &mut World, count: u32) -> Result<(i128, u64), Fault> {
     let married = make_married(world)?;
     let mut numbers = Numbers::new();
@@ -159,7 +159,7 @@ fn grow_chain(world: &mut World, scratch: &mut Scratch, count: u32) -> Result<()
     Ok(())
 }
 
-/// A chain. Tells of the parents.
+/// Grows a chain, and answers what `parents` finds.
 pub fn chain(alloc: Global, world: &mut World, count: u32) -> Result<(i128, u64), Fault> {
     let mut scratch = Scratch::new(alloc);
     let grown = grow_chain(world, &mut scratch, count);

@@ -1,4 +1,4 @@
--- How deep a thing stands: how long the longest chain is that starts there.
+-- The depth of a thing: the length of the longest chain that starts there.
 use Rattle.std.specs.Prelude.{ℕ, zero, suc, ◌≤◌, max, List, [], ◌∷◌, map, Contains}
 
 -- a chain of so many steps leads from x to another thing
@@ -6,7 +6,7 @@ pub data IsChain {A : Type 0} (next : A → List A) (x : A) : ℕ → A → Type
   no_step : IsChain next x zero x
   one_more : {n : ℕ} {y z : A} → IsChain next x n y → Contains (next y) z → IsChain next x (suc n) z
 
--- so many steps has the longest chain from x
+-- the longest chain from x has so many steps
 pub record IsDepth {A : Type 0} (next : A → List A) (x : A) (n : ℕ) : Type 0 where
   -- some chain has as many
   pub reached : (y : A) × IsChain next x n y

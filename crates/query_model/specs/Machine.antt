@@ -1,4 +1,5 @@
--- The grammar as a machine that reads one token after the other: how many groups are open, what was read of the present item, and what may come next.
+-- The grammar as a machine that reads one token after another: how many groups are open, what was read of the present
+-- item, and what may come next.
 use Rattle.std.specs.Prelude.{ℕ, zero, suc, Bool, true, false, List, [], ◌∷◌, codes, bytes_eq, Option, Some, None, Result, Ok, Err, if◌then◌else◌}
 use Rattle.query_model.specs.declared.Span.{Span}
 use Rattle.query_model.specs.Text.{is_reserved}

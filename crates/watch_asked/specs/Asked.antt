@@ -63,7 +63,8 @@ asks_of v t = if is_variable v t.source then asks_by t else []
 
 -- ---- from the entities of which variables terms lead to those of which others
 
--- by pairs that the entity of the source holds, and of which that of the target is the target: from the one of the two variables that is before the other
+-- by pairs of the source's entity whose target is the target's entity: from the earlier of the two variables to the
+-- later
 abbrev pub steps_between : ℕ → ℕ → Pattern → List LinkStep
 steps_between source target p =
     if nat_lt source target then record { from = source; to = target; asked = p; outward = true } ∷ []

@@ -1,4 +1,4 @@
--- Which ids concern a query: where only facts of others come and go, its rows are of the same entities.
+-- Which ids concern a query: where only facts of other ids come and go, its rows are of the same entities.
 use Rattle.std.specs.Prelude.{ℕ, ◌==◌, Bool, true, false, ◌&&◌, ◌||◌, Option, Some, None}
 use Rattle.std.specs.List.{list_any}
 use Rattle.ecs_id.specs.Id.{Id, plain, pair}

@@ -1,4 +1,5 @@
--- Idle facts: for a variable a fact is idle whose holder is asked for nothing of the kind as its entity, or lacks what else is asked of that.
+-- Idle facts: a fact is idle for a variable where its holder, as the variable's entity, is asked for nothing of the
+-- kind, or lacks what else is asked of it.
 use Rattle.std.specs.Prelude.{ℕ, ◌==◌, Bool, false, not, ◌&&◌, ◌||◌, List, is_none}
 use Rattle.std.specs.List.{list_any}
 use Rattle.ecs_id.specs.Id.{Id}
