@@ -1,6 +1,6 @@
 //! What a session keeps of queries, and the events of its world.
 
-/// As what a query is stored.
+/// The kind of a stored query: what it gives.
 #[derive(Clone, Copy, Debug, PartialEq, Eq)]
 pub enum StoredKind {
     /// Its rows, when they are asked for.
