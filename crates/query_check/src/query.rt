@@ -83,7 +83,7 @@ impl<A: Allocator> Item<A> {
 #[derive(Debug, Drop)]
 pub enum Piece<A: Allocator = Global> {
     Item(Item<A>),
-    /// The begin of a negated group: whether it was written as one term, and the numbers of its own variables.
+    /// The beginning of a negated group: whether it was written as one term, and the numbers of its own variables.
     Opening(bool, Vec<usize, A>),
     /// The end of the innermost group.
     Closing,
@@ -550,7 +550,7 @@ fn add_item<A: Allocator>(item: Item<A>, pieces: &mut Vec<Piece<A>, A>) -> Resul
     Ok(())
 }
 
-/// Adds the begin of a group, with the numbers of its own variables.
+/// Adds the beginning of a group, with the numbers of its own variables.
 fn add_opening<A: Allocator + Copy>(
     alloc: A,
     scope: &Scope<'_, '_>,
