@@ -5,6 +5,7 @@ mod KnownWays
 mod SearchRounds
 pub mod Cleanup
 mod LineSearch
+pub mod NotedWays
 pub mod DepthWalks
 pub mod Marks
 mod Rows

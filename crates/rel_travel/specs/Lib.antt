@@ -2,6 +2,8 @@ pub mod Finds
 pub mod Growing
 pub mod Words
 pub mod Trail
+pub mod UpWords
+pub mod LineSteps
 pub mod Holders
 pub mod Followed
 pub mod Ways

@@ -13,6 +13,7 @@ mod path;
 mod referrers;
 mod scratch;
 mod spread;
+mod up_words;
 mod ways;
 mod work_list;
 
@@ -24,5 +25,6 @@ pub use scratch::{
     Scratch, above, below, deleted, deletion_is_forbidden, depth, find_referrers, first_up, gather,
     known_depth, pull, reaches, would_cycle,
 };
+pub use up_words::{Known, NOBODY, Unknown, told, word_of};
 pub use ways::{Ways, known_reaches};
 pub use work_list::Rule;

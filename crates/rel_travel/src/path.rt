@@ -1,5 +1,5 @@
 //! Where a search that goes down before it goes on stands.
-ghost use Rattle.std.specs.Prelude.{◌≡◌, ◌+◌, ◌≤◌, ◌<◌, [], ◌∷◌, length, MatchOption, OnOk, OnErr};
+ghost use Rattle.std.specs.Prelude.{◌≡◌, ◌==◌, ◌+◌, ◌≤◌, ◌<◌, [], ◌∷◌, length, MatchOption, OnOk, OnErr};
 
 use std::alloc::{AllocError, Allocator, Global};
 use std::marker::Model;
@@ -50,6 +50,13 @@ impl<A: Allocator> Path<A> {
     {
         self.steps.clear();
         self.steps.reserve(room)
+    }
+
+    /// Whether there is no step.
+    pub fn is_empty(&self) -> bool
+        ensures { result ≡ (length self.now.steps == 0) }
+    {
+        self.steps.is_empty()
     }
 
     /// Forgets all steps.

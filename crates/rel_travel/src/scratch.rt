@@ -14,6 +14,7 @@ ghost use Rattle.rel_travel.specs.Growing.{IsGrownBy};
 ghost use Rattle.rel_travel.specs.Coming.{above_list, below_list, brought, coming, with_finds};
 ghost use Rattle.rel_travel.specs.Finds.{is_among, with_find};
 ghost use Rattle.rel_travel.specs.Referring.{is_forbidden, referrers};
+ghost use Rattle.rel_travel.specs.UpWords.{AreKnown};
 ghost use Rattle.rel_travel.specs.Words.{AreNumbers};
 
 use crate::chains::{begin_with, leads, leads_back, reach_of};
@@ -26,6 +27,7 @@ use crate::holders::{Downward, Holders};
 use crate::line::first_hit;
 use crate::path::Path;
 use crate::referrers::list_referrers;
+use crate::up_words::Known;
 use crate::work_list::{Rule, gather_found};
 use component_index::Pattern;
 use std::alloc::{AllocError, Allocator, Global};
@@ -349,26 +351,34 @@ pub fn would_cycle<G: Graph, A: Allocator>(
 /// The first entity in the line upward from an entity that holds an id which the pattern matches. The entity itself
 /// isn't in the line.
 ///
-/// It goes through the ids of each entity once, though it may stand in the line more often.
-pub fn first_up<G: Graph, A: Allocator>(
+/// The word of an entity may say what is found from it on, the entity included. The search goes through the ids of each
+/// entity once, though it may stand in the line more often, and of none whose word says something. It notes what is
+/// found.
+pub fn first_up<G: Graph, K: Known, A: Allocator>(
     graph: &G,
     index: u32,
     relationship: u32,
     pattern: Pattern,
+    known: &mut K,
     scratch: &mut Scratch<A>,
 ) -> Option<u32>
     requires covered { G.size graph.now ≤ scratch.old.size }
     requires inside { index < scratch.old.size }
     requires acyclic { IsAcyclic (G.ids graph.now) relationship }
+    requires known { AreKnown (λ e. find (λ t. list_any (matches pattern) (G.ids graph.now t))
+        (e ∷ ancestor_line (G.ids graph.now) (G.entities graph.now) relationship e)) (K.words known.old) }
     ensures size { scratch.new.size ≡ scratch.old.size }
     ensures first { result ≡ find (λ t. list_any (matches pattern) (G.ids graph.now t))
         (ancestor_line (G.ids graph.now) (G.entities graph.now) relationship index) }
+    ensures known { AreKnown (λ e. find (λ t. list_any (matches pattern) (G.ids graph.now t))
+        (e ∷ ancestor_line (G.ids graph.now) (G.entities graph.now) relationship e)) (K.words known.new) }
 {
     first_hit(
         graph,
         index,
         relationship,
         pattern,
+        known,
         &mut scratch.found,
         &mut scratch.path,
     )

@@ -7,7 +7,7 @@ use component_index::Pattern;
 use ecs_id::Id;
 use ecs_model::built_ins::ACYCLIC;
 use ecs_world::World;
-use rel_travel::{Graph, Scratch, above, first_up, pull, reaches};
+use rel_travel::{Graph, Scratch, Unknown, above, first_up, pull, reaches};
 
 /// Whether no chain of a relationship closes.
 fn has_no_cycle(world: &World, relationship: u32) -> bool
@@ -30,7 +30,7 @@ pub fn first_above(
     if !has_no_cycle(world, relationship) || !scratch.covers(&links) || index >= links.size() {
         return None;
     }
-    first_up(&links, index, relationship, pattern, scratch)
+    first_up(&links, index, relationship, pattern, &mut Unknown, scratch)
 }
 
 /// Whether the relationship leads there. There is room, and both entities are in the world.

@@ -7,7 +7,7 @@ ghost use Rattle.test_store.specs.Closed.{FallBelow, MentionsInside, live_in, ro
 use component_index::Pattern;
 use ecs_id::{Id, LAST_INDEX};
 use ecs_model::built_ins::CHILD_OF;
-use rel_travel::{Graph, Scratch, first_up, would_cycle};
+use rel_travel::{Graph, Scratch, Unknown, first_up, would_cycle};
 use std::alloc::{AllocError, Global};
 use std::marker::Model;
 
@@ -174,7 +174,7 @@ pub fn first_parent(
     if !graph.leads_down() || !scratch.covers(graph) || index >= graph.size() {
         return None;
     }
-    first_up(graph, index, CHILD_OF, pattern, scratch)
+    first_up(graph, index, CHILD_OF, pattern, &mut Unknown, scratch)
 }
 
 /// Whether a pair would close a chain of ChildOf. Both entities are in the graph.

@@ -7,4 +7,3 @@ mod Tables
 pub mod Lists
 mod Targets
 mod SingleTargets
-mod NotedWays

@@ -66,5 +66,8 @@ module _ {n : ℕ} {entities : List ℕ} {ids : ℕ → List Id} (links : AreLin
         pub none_above : Nothing ≡ targets_as (targets_in own r) → None ≡ find hit (from start)
         none_above e = nothing_above hit s own here e ∙ sym (missed_here missed)
 
+        pub forked : (find hit (above s) ≡ find hit (from start)) × (find hit (above s) ≡ find hit (from s))
+        forked = (sym (missed_here missed), rw (← missed) refl)
+
         pub onward : (t : ℕ) → One t ≡ targets_as (targets_in own r) → find hit (from start) ≡ find hit (from t)
         onward t e = missed_here missed ∙ sym (one_above hit s own here t e)

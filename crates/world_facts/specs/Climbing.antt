@@ -1,5 +1,7 @@
 -- What is met on the way up from parent to parent.
-use Rattle.std.specs.Prelude.{◌≡◌, ℕ, List, [], ◌∷◌, Option}
+use Rattle.std.specs.Prelude.{◌≡◌, ◌<◌, ℕ, Bool, List, [], ◌∷◌, Option, find}
+use Rattle.world_facts.specs.declared.climb.Halt.{Halt}
+use Rattle.world_facts.specs.declared.climb.Halt.TheVariants.{Ended, Fork as Forked}
 use Rattle.world_facts.specs.declared.climb.Start.{Start}
 use Rattle.world_facts.specs.declared.climb.Start.TheVariants.{At, Fork, Told}
 use Rattle.world_facts.specs.declared.climb.Targets.{Targets}
@@ -16,3 +18,8 @@ abbrev pub IsStart : Start → (ℕ → Option ℕ) → Option ℕ → List ℕ 
 IsStart (Told found) from above targets = found ≡ above
 IsStart Fork from above targets = Several ≡ targets_as targets
 IsStart (At e) from above targets = from e ≡ above
+
+-- where a climb from an entity halts: what it found, which is found from the mark on too; or an entity below a size from whose line on the same is found as from the start, and from itself
+abbrev pub IsHalt : Halt → ℕ → (ℕ → Bool) → (ℕ → List ℕ) → ℕ → Type 0
+IsHalt (Ended found mark) size hit line start = (found ≡ find hit (start ∷ line start)) × (found ≡ find hit (mark ∷ line mark))
+IsHalt (Forked at) size hit line start = (at < size) × (find hit (line at) ≡ find hit (start ∷ line start)) × (find hit (line at) ≡ find hit (at ∷ line at))

@@ -14,9 +14,9 @@ use component_index::{ListedKey, Pattern};
 use ecs_id::{EntityId, Id, TableKey};
 use ecs_model::built_ins::REFLEXIVE;
 use ecs_world::{Links, World};
-use plan_steps::{Facts, Known};
+use plan_steps::Facts;
 use rel_travel::{
-    Graph, Holders, Scratch, Ways, above, below, known_depth, known_reaches, pull, reaches,
+    Graph, Holders, Known, Scratch, Ways, above, below, known_depth, known_reaches, pull, reaches,
 };
 use std::alloc::Allocator;
 use std::marker::Model;
