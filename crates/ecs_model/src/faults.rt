@@ -82,7 +82,7 @@ pub enum SessionRefusal {
     #[error("{0}")]
     OfWorld(Refusal),
     /// Events wait: no command is carried out before they were delivered.
-    #[error("events wait to be told")]
+    #[error("events wait to be delivered")]
     EventsPending,
     /// No stored query has the name, or none that is kept.
     #[error("no such stored query has the name")]

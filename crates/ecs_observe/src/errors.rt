@@ -20,10 +20,10 @@ pub enum SessionError {
 #[derive(Clone, Copy, Debug, PartialEq, Eq, Error)]
 pub enum SetColumnError {
     /// Events wait to be delivered.
-    #[error("events wait to be told")]
+    #[error("events wait to be delivered")]
     EventsPending,
     /// A stored query is a monitor or an event observer, which is notified of each command.
-    #[error("a stored query is told of each command")]
+    #[error("a stored query is notified of each command")]
     Watched,
     /// The world refuses it.
     #[error("{0}")]
