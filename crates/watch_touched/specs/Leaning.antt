@@ -1,5 +1,5 @@
 -- Who leans on an entity: who holds a pair with it that passes a test, which may ask for the holder's other ids too.
-use Rattle.std.specs.Prelude.{◌≡◌, ℕ, Bool, ◌&&◌, ◌||◌, List, [], ◌∷◌, ◌++◌, Some, filter, map, not, if◌then◌else◌}
+use Rattle.std.specs.Prelude.{◌≡◌, ℕ, Bool, true, ◌&&◌, ◌||◌, List, [], ◌∷◌, ◌++◌, Some, Result, IfOk, filter, map, not, if◌then◌else◌}
 use Rattle.std.specs.List.{Contains, list_any}
 use Rattle.std.specs.Option.{option_map_or}
 use Rattle.component_index.specs.Patterns.{matches}
@@ -75,3 +75,7 @@ pub record Adds (wanted before after : List ℕ) : Type 0 where
   pub more : List ℕ
   pub behind : after ≡ before ++ more
   pub all : (e : ℕ) → Contains wanted e → Contains after e
+
+-- where nobody was left out
+abbrev pub IfDone : {E : Type 0} → Result Bool E → Type 0 → Type 0
+IfDone result P = IfOk result (λ done. done ≡ true → P)

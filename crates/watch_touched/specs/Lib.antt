@@ -6,4 +6,5 @@ pub mod Leaning
 pub mod Moving
 pub mod Roles
 pub mod Steps
+pub mod Searches
 pub mod Laws

@@ -1,11 +1,12 @@
 //! Who leans on an entity: who holds a pair with it that concerns a query.
 
-ghost use Rattle.std.specs.Prelude.{◌≡◌, ◌==◌, ◌&&◌, ◌∷◌, [], true, filter, flat_map, map, IfOk, OnOk};
+ghost use Rattle.std.specs.Prelude.{◌≡◌, ◌==◌, ◌&&◌, ◌∷◌, [], filter, flat_map, map, OnOk};
 ghost use Rattle.std.specs.List.{list_all, list_any};
 ghost use Rattle.component_index.specs.Patterns.{matches};
 ghost use Rattle.ecs_model.specs.World.{WorldState};
-ghost use Rattle.watch_touched.specs.Leaning.{Adds, HasAllBelow, HoldAll, HoldTheirs, is_sought, leaning, leans};
+ghost use Rattle.watch_touched.specs.Leaning.{Adds, HasAllBelow, HoldAll, HoldTheirs, IfDone, is_sought, leans};
 ghost use Rattle.watch_touched.specs.Leaning.{pairs_to, standing_in};
+ghost use Rattle.watch_touched.specs.Searches.{is_looked_for, leaners_on};
 
 use crate::sought::{Sought, is_sought};
 use component_index::{ListedKey, Part, Pattern};
@@ -24,137 +25,125 @@ pub(crate) const MOST: usize = 64;
 /// How many tables are gone through for one of them. Most may be empty.
 pub(crate) const MOST_TABLES: usize = 256;
 
-/// Adds those who lean on one of these entities by a pair that concerns a query so. False, where these may be too many:
-/// then not all are added.
-pub(crate) fn push_leaning_on_all<A: Allocator + Copy, B: Allocator>(
-    alloc: A,
-    query: &AskedQuery<'_, B>,
-    sought: Sought,
-    world: &World<A>,
-    targets: &[u32],
-    found: &mut ShortList<A>,
-) -> Result<bool, AllocError>
-    ensures { IfOk result (λ done. done ≡ true → Adds (flat_map
-        (leaning (is_sought sought query.now) world.now.state) targets.now) found.old.items
-        found.new.items) }
-{
-    if targets.len() > MOST {
-        return Ok(false);
-    }
-    for target in targets {
-        if !push_leaning(alloc, query, sought, world, *target, found)? {
+/// What those are looked for by who lean on somebody: by a pair for which a query has them sought.
+#[derive(Drop)]
+pub(crate) struct Leaners<'a, 'q, A: Allocator, B: Allocator> {
+    pub(crate) alloc: A,
+    pub(crate) query: &'a AskedQuery<'q, B>,
+    pub(crate) sought: Sought,
+    pub(crate) world: &'a World<A>,
+}
+
+impl<A: Allocator + Copy, B: Allocator> Leaners<'_, '_, A, B> {
+    /// Adds those who lean on one of these entities. False, where these may be too many: then not all are added.
+    pub(crate) fn push_leaning_on_all(
+        &self,
+        targets: &[u32],
+        found: &mut ShortList<A>,
+    ) -> Result<bool, AllocError>
+        ensures { IfDone result (Adds (flat_map (leaners_on self.now) targets.now) found.old.items found.new.items) }
+    {
+        if targets.len() > MOST {
             return Ok(false);
         }
-    }
-    Ok(true)
-}
-
-/// Adds those who lean on one of these, those who lean on one of those, and so on. False, where these may be too many.
-pub(crate) fn push_all_below<A: Allocator + Copy, B: Allocator>(
-    alloc: A,
-    query: &AskedQuery<'_, B>,
-    sought: Sought,
-    world: &World<A>,
-    found: &mut ShortList<A>,
-) -> Result<bool, AllocError>
-    ensures { IfOk result (λ done. done ≡ true → HasAllBelow (is_sought sought query.now) world.now.state
-        found.old.items found.new.items) }
-{
-    for next in 0..MOST {
-        if next >= found.len() {
-            return Ok(true);
+        for target in targets {
+            if !self.push_leaning(*target, found)? {
+                return Ok(false);
+            }
         }
-        let target = found.as_slice()[next];
-        if !push_leaning(alloc, query, sought, world, target, found)? {
-            return Ok(false);
+        Ok(true)
+    }
+
+    /// Adds those who lean on one of these, those who lean on one of those, and so on. False, where these may be too
+    /// many.
+    pub(crate) fn push_all_below(&self, found: &mut ShortList<A>) -> Result<bool, AllocError>
+        ensures { IfDone result (HasAllBelow (is_looked_for self.now) self.now.world.now.state found.old.items
+            found.new.items) }
+    {
+        for next in 0..MOST {
+            if next >= found.len() {
+                return Ok(true);
+            }
+            let target = found.as_slice()[next];
+            if !self.push_leaning(target, found)? {
+                return Ok(false);
+            }
         }
+        Ok(found.len() <= MOST)
     }
-    Ok(found.len() <= MOST)
-}
 
-/// Adds those who lean on this entity. False, where these may be too many.
-pub(crate) fn push_leaning<A: Allocator + Copy, B: Allocator>(
-    alloc: A,
-    query: &AskedQuery<'_, B>,
-    sought: Sought,
-    world: &World<A>,
-    target: u32,
-    found: &mut ShortList<A>,
-) -> Result<bool, AllocError>
-    ensures { IfOk result (λ done. done ≡ true → Adds (leaning (is_sought sought query.now) world.now.state target)
-        found.old.items found.new.items) }
-{
-    let links = world.links();
-    let store = links.tables().store();
-    let pattern = Pattern {
-        first: Part::Any,
-        second: Some(Part::Is(target)),
-    };
-    let tables = links.tables_of(pattern);
-    if tables.len() > MOST_TABLES {
-        return Ok(false);
-    }
-    if !push_from_tables(alloc, query, sought, store, tables, target, found)? {
-        return Ok(false);
-    }
-    Ok(found.len() <= MOST)
-}
-
-/// Adds those in these tables who lean on an entity. All in a table hold the same ids. False, where more are looked at
-/// than few, and then not all are added.
-fn push_from_tables<A: Allocator + Copy, B: Allocator>(
-    alloc: A,
-    query: &AskedQuery<'_, B>,
-    sought: Sought,
-    store: &TableStore<A>,
-    tables: &[ListedKey],
-    target: u32,
-    found: &mut ShortList<A>,
-) -> Result<bool, AllocError>
-    ensures { IfOk result (λ done. done ≡ true → (w : WorldState) → HoldTheirs w store.now
-        → Adds (filter (leans (is_sought sought query.now) w target) (flat_map (standing_in store.now) tables.now))
-        found.old.items found.new.items) }
-{
-    let mut free = MOST;
-    'tables: for listed in tables {
-        let key = listed.key();
-        let Some(table) = store.get(key) else {
-            continue 'tables;
+    /// Adds those who lean on this entity. False, where these may be too many.
+    fn push_leaning(&self, target: u32, found: &mut ShortList<A>) -> Result<bool, AllocError>
+        ensures { IfDone result (Adds (leaners_on self.now target) found.old.items found.new.items) }
+    {
+        let links = self.world.links();
+        let store = links.tables().store();
+        let pattern = Pattern {
+            first: Part::Any,
+            second: Some(Part::Is(target)),
         };
-        let rows = table.rows();
-        if rows.len() > free {
+        let tables = links.tables_of(pattern);
+        if tables.len() > MOST_TABLES {
             return Ok(false);
         }
-        free -= rows.len();
-        let ids = table.ids();
-        push_alike(alloc, query, sought, ids, rows, target, found)?;
+        if !self.push_from_tables(store, tables, target, found)? {
+            return Ok(false);
+        }
+        Ok(found.len() <= MOST)
     }
-    Ok(true)
-}
 
-/// Adds these entities, of whom each holds these ids, if they lean on another one: all of them do, or nobody does.
-#[inline(always)]
-fn push_alike<A: Allocator + Copy, B: Allocator>(
-    alloc: A,
-    query: &AskedQuery<'_, B>,
-    sought: Sought,
-    ids: &[Id],
-    entities: &[EntityId],
-    target: u32,
-    found: &mut ShortList<A>,
-) -> Result<(), AllocError>
-    ensures { OnOk result ((w : WorldState) → HoldAll w ids.now (map (λ e. e.index) entities.now)
-        → Adds (filter (leans (is_sought sought query.now) w target) (map (λ e. e.index) entities.now)) found.old.items
-        found.new.items) }
-{
-    // who is there already needn't be judged
-    if are_among(found.as_slice(), entities) {
-        return Ok(());
+    /// Adds those in these tables who lean on an entity. All in a table hold the same ids. False, where more are looked
+    /// at than few, and then not all are added.
+    fn push_from_tables(
+        &self,
+        store: &TableStore<A>,
+        tables: &[ListedKey],
+        target: u32,
+        found: &mut ShortList<A>,
+    ) -> Result<bool, AllocError>
+        ensures { IfDone result ((w : WorldState) → HoldTheirs w store.now
+            → Adds (filter (leans (is_looked_for self.now) w target) (flat_map (standing_in store.now) tables.now))
+            found.old.items found.new.items) }
+    {
+        let mut free = MOST;
+        'tables: for listed in tables {
+            let key = listed.key();
+            let Some(table) = store.get(key) else {
+                continue 'tables;
+            };
+            let rows = table.rows();
+            if rows.len() > free {
+                return Ok(false);
+            }
+            free -= rows.len();
+            let ids = table.ids();
+            self.push_alike(ids, rows, target, found)?;
+        }
+        Ok(true)
     }
-    if !lean(query, sought, target, ids) {
-        return Ok(());
+
+    /// Adds these entities, of whom each holds these ids, if they lean on another one: all of them do, or nobody does.
+    #[inline(always)]
+    fn push_alike(
+        &self,
+        ids: &[Id],
+        entities: &[EntityId],
+        target: u32,
+        found: &mut ShortList<A>,
+    ) -> Result<(), AllocError>
+        ensures { OnOk result ((w : WorldState) → HoldAll w ids.now (map (λ e. e.index) entities.now)
+            → Adds (filter (leans (is_looked_for self.now) w target) (map (λ e. e.index) entities.now))
+            found.old.items found.new.items) }
+    {
+        // who is there already needn't be judged
+        if are_among(found.as_slice(), entities) {
+            return Ok(());
+        }
+        if !lean(self.query, self.sought, target, ids) {
+            return Ok(());
+        }
+        push_each(self.alloc, entities, found)
     }
-    push_each(alloc, entities, found)
 }
 
 /// Adds those of these entities that aren't there yet.
@@ -172,7 +161,7 @@ pub(crate) fn push_each<A: Allocator + Copy>(
 }
 
 /// Adds an entity that isn't there yet.
-pub(crate) fn push_new<A: Allocator + Copy>(
+fn push_new<A: Allocator + Copy>(
     alloc: A,
     entity: u32,
     found: &mut ShortList<A>,

@@ -1,17 +1,19 @@
 //! Who may have moved in or out of a linked query's rows by facts of others than `$this`: back from those of whom a
 //! fact came or went, along the terms that link its variables, to those who may be `$this`.
 
-ghost use Rattle.std.specs.Prelude.{◌≡◌, ◌≤◌, ◌+◌, ◌==◌, ◌&&◌, ◌++◌, ℕ, false, true, filter, flat_map, map, IfOk};
+ghost use Rattle.std.specs.Prelude.{◌≡◌, ◌+◌, ◌==◌, ◌&&◌, ◌++◌, ◌∷◌, [], false, true, filter, flat_map, map, OnOk};
 ghost use Rattle.std.specs.List.{list_any};
 ghost use Rattle.component_index.specs.Patterns.{matches};
 ghost use Rattle.ecs_model.specs.World.{WorldState};
 ghost use Rattle.watch_asked.specs.Asked.{IsAskedBy, any_counts_as};
-ghost use Rattle.watch_touched.specs.Leaning.{Adds, HoldAll, HoldTheirs, leaning, leans, pairs_to, standing_in};
+ghost use Rattle.watch_touched.specs.Leaning.{Adds, HoldAll, HoldTheirs, IfDone, leaning, leans, pairs_to};
+ghost use Rattle.watch_touched.specs.Leaning.{standing_in};
+ghost use Rattle.watch_touched.specs.Moving.{may_be_this};
 ghost use Rattle.watch_touched.specs.Roles.{roles_of, this_among};
-ghost use Rattle.watch_touched.specs.Steps.{behind_gone, behind_target, found_behind, found_from, leads_by, step_back};
+ghost use Rattle.watch_touched.specs.Searches.{AddsBehind, leads, this_behind};
+ghost use Rattle.watch_touched.specs.Steps.{behind_gone, behind_target, found_from, step_back};
 
-use crate::leaning::{MOST, MOST_TABLES, are_among, is_pair_to, push_each};
-use crate::moving::push_if_matching;
+use crate::leaning::{MOST, MOST_TABLES, are_among, is_among, is_pair_to, push_each};
 use crate::touching::ids_at;
 use component_index::ListedKey;
 use ecs_id::{EntityId, Id};
@@ -25,102 +27,428 @@ use watch_asked::{AskedOf, AskedQuery, AskedTerms, LinkStep};
 
 /// What a walk back goes by.
 #[derive(Drop)]
-struct Walk<'a, 'q, A: Allocator, B: Allocator> {
-    query: &'a AskedQuery<'q, B>,
+pub(crate) struct Walk<'a, 'q, A: Allocator, B: Allocator> {
+    pub(crate) alloc: A,
+    pub(crate) query: &'a AskedQuery<'q, B>,
     /// What is kept of the query.
-    asked: &'a AskedTerms<B>,
-    world: &'a World<A>,
-    changes: &'a Changes<A>,
+    pub(crate) asked: &'a AskedTerms<B>,
+    pub(crate) world: &'a World<A>,
+    pub(crate) changes: &'a Changes<A>,
 }
 
-/// Adds all who may have moved by a fact of somebody who may stand for another variable than `$this`. False, where more
-/// are looked at than few.
-///
-/// A fact is begun with as each variable that is asked for it and whose needs its holder has, or had. From there it
-/// goes back alone, to variables before, so each walk ends.
-pub(crate) fn push_by_roles<A: Allocator + Copy, B: Allocator>(
-    alloc: A,
-    query: &AskedQuery<'_, B>,
-    asked: &AskedTerms<B>,
-    world: &World<A>,
-    changes: &Changes<A>,
-    moving: &mut ShortList<A>,
-) -> Result<bool, AllocError>
-    requires asked { IsAskedBy query.now asked.now }
-    ensures { IfOk result (λ done. done ≡ true → Adds (this_among query.now world.now.state (λ v t. true) changes.now
-        (roles_of query.now world.now.state (λ v t. true) changes.now (map (λ a. a.variable) asked.now.others.items)))
-        moving.old.items moving.new.items) }
-{
-    let walk = Walk {
-        query,
-        asked,
-        world,
-        changes,
-    };
-    let mut free = MOST;
-    let came = changes.came();
-    if !push_from_facts(alloc, &walk, came, &mut free, moving)? {
-        return Ok(false);
-    }
-    let went = changes.went();
-    push_from_facts(alloc, &walk, went, &mut free, moving)
+/// A step that is gone back along from an entity, to which it leads.
+#[derive(Clone, Copy)]
+struct StepBack<'a> {
+    step: &'a LinkStep,
+    entity: u32,
 }
 
-/// Adds those who may be `$this` behind the entities of these facts. False, where more are looked at than so many.
-#[inline(always)]
-fn push_from_facts<A: Allocator + Copy, B: Allocator>(
-    alloc: A,
-    walk: &Walk<'_, '_, A, B>,
-    facts: &[FactKey],
-    free: &mut usize,
-    moving: &mut ShortList<A>,
-) -> Result<bool, AllocError>
-    requires asked { IsAskedBy walk.now.query.now walk.now.asked.now }
-    ensures { IfOk result (λ done. done ≡ true → Adds (flat_map
-        (found_from walk.now.query.now walk.now.world.now.state walk.now.changes.now walk.now.asked.now.others.items)
-        facts.now) moving.old.items
-        moving.new.items) }
-{
-    for fact in facts {
-        if !push_from_fact(alloc, walk, *fact, free, moving)? {
+impl<A: Allocator + Copy, B: Allocator> Walk<'_, '_, A, B> {
+    /// Adds all who may have moved by a fact of somebody who may stand for another variable than `$this`. False, where
+    /// more are looked at than few.
+    ///
+    /// A fact is begun with as each variable that is asked for it and whose needs its holder has, or had. From there it
+    /// goes back alone, to variables before, so each walk ends.
+    pub(crate) fn push_by_roles(&self, moving: &mut ShortList<A>) -> Result<bool, AllocError>
+        requires asked { IsAskedBy self.now.query.now self.now.asked.now }
+        ensures { IfDone result (Adds (this_among self.now.query.now self.now.world.now.state (λ v t. true)
+            self.now.changes.now
+            (roles_of self.now.query.now self.now.world.now.state (λ v t. true) self.now.changes.now
+            (map (λ a. a.variable) self.now.asked.now.others.items)))
+            moving.old.items moving.new.items) }
+    {
+        let mut free = MOST;
+        let came = self.changes.came();
+        if !self.push_from_facts(came, &mut free, moving)? {
             return Ok(false);
         }
+        let went = self.changes.went();
+        self.push_from_facts(went, &mut free, moving)
     }
-    Ok(true)
-}
 
-/// Adds those who may be `$this` behind the entity of a fact, as each variable for which it counts. False, where more
-/// are looked at than so many.
-// (out of line, so that where no fact came or went nothing is paid for it)
-#[inline(never)]
-fn push_from_fact<A: Allocator + Copy, B: Allocator>(
-    alloc: A,
-    walk: &Walk<'_, '_, A, B>,
-    fact: FactKey,
-    free: &mut usize,
-    moving: &mut ShortList<A>,
-) -> Result<bool, AllocError>
-    requires asked { IsAskedBy walk.now.query.now walk.now.asked.now }
-    ensures { IfOk result (λ done. done ≡ true → Adds (found_from walk.now.query.now walk.now.world.now.state
-        walk.now.changes.now
-        walk.now.asked.now.others.items fact) moving.old.items moving.new.items) }
-{
-    let entity = fact.entity();
-    let ids = ids_at(walk.world, entity);
-    let went = walk.changes.went();
-    'entries: for one in walk.asked.others() {
-        if !one.counts(ids, went, fact.id()) {
-            continue 'entries;
+    /// Adds those who may be `$this` behind the entities of these facts. False, where more are looked at than so many.
+    #[inline(always)]
+    fn push_from_facts(
+        &self,
+        facts: &[FactKey],
+        free: &mut usize,
+        moving: &mut ShortList<A>,
+    ) -> Result<bool, AllocError>
+        requires asked { IsAskedBy self.now.query.now self.now.asked.now }
+        ensures { IfDone result (Adds (flat_map (found_from self.now.query.now self.now.world.now.state
+            self.now.changes.now self.now.asked.now.others.items) facts.now) moving.old.items moving.new.items) }
+    {
+        for fact in facts {
+            if !self.push_from_fact(*fact, free, moving)? {
+                return Ok(false);
+            }
+        }
+        Ok(true)
+    }
+
+    /// Adds those who may be `$this` behind the entity of a fact, as each variable for which it counts. False, where
+    /// more are looked at than so many.
+    // (out of line, so that where no fact came or went nothing is paid for it)
+    #[inline(never)]
+    fn push_from_fact(
+        &self,
+        fact: FactKey,
+        free: &mut usize,
+        moving: &mut ShortList<A>,
+    ) -> Result<bool, AllocError>
+        requires asked { IsAskedBy self.now.query.now self.now.asked.now }
+        ensures { IfDone result (Adds (found_from self.now.query.now self.now.world.now.state self.now.changes.now
+            self.now.asked.now.others.items fact) moving.old.items moving.new.items) }
+    {
+        let entity = fact.entity();
+        let ids = ids_at(self.world, entity);
+        let went = self.changes.went();
+        'entries: for one in self.asked.others() {
+            if !one.counts(ids, went, fact.id()) {
+                continue 'entries;
+            }
+            if !take(free, 1) {
+                return Ok(false);
+            }
+            let variable = one.variable();
+            if !self.push_behind(variable, entity, free, moving)? {
+                return Ok(false);
+            }
+        }
+        Ok(true)
+    }
+
+    /// Adds those who may be `$this` behind an entity as that of a variable. False, where more are looked at than so
+    /// many.
+    #[cycle(behind)]
+    fn push_behind(
+        &self,
+        variable: usize,
+        entity: u32,
+        free: &mut usize,
+        moving: &mut ShortList<A>,
+    ) -> Result<bool, AllocError>
+        requires asked { IsAskedBy self.now.query.now self.now.asked.now }
+        ensures { IfDone result (AddsBehind variable (λ n. this_behind self.now n variable entity)
+            moving.old.items moving.new.items) }
+    {
+        if variable == 0 {
+            self.push_if_matching(entity, moving)?;
+            return Ok(true);
+        }
+        'each: for step in self.asked.steps() {
+            if !leads_to(step, variable) {
+                continue 'each;
+            }
+            if !self.push_by_step(StepBack { step, entity }, free, moving)? {
+                return Ok(false);
+            }
+        }
+        Ok(true)
+    }
+
+    /// Adds an entity that isn't there yet, if it doesn't lack what the query asks of `$this` itself.
+    fn push_if_matching(&self, entity: u32, found: &mut ShortList<A>) -> Result<(), AllocError>
+        ensures { OnOk result (Adds (filter (may_be_this self.now.query.now self.now.world.now.state) (entity ∷ []))
+            found.old.items found.new.items) }
+    {
+        if is_among(found.as_slice(), entity) {
+            return Ok(());
+        }
+        if self.query.lacks(ids_at(self.world, entity)) {
+            return Ok(());
+        }
+        found.push(self.alloc, entity)
+    }
+
+    /// Adds those who may be `$this` behind those from whom a step may lead to an entity: behind who holds a pair with
+    /// it, or behind the targets of such pairs that it holds, or that went from it. False, where more are looked at than
+    /// so many.
+    #[cycle(behind)]
+    fn push_by_step(
+        &self,
+        back: StepBack<'_>,
+        free: &mut usize,
+        moving: &mut ShortList<A>,
+    ) -> Result<bool, AllocError>
+        requires asked { IsAskedBy self.now.query.now self.now.asked.now }
+        ensures { IfDone result (AddsBehind (back.entry.step).now.from
+            (λ n. flat_map (this_behind self.now n (back.entry.step).now.from)
+            (step_back self.now.query.now self.now.world.now.state self.now.asked.now.others.items
+            self.now.changes.now.went (back.entry.step).now back.entry.entity))
+            moving.old.items moving.new.items) }
+    {
+        if back.step.is_outward() {
+            return self.push_behind_holders(back, free, moving);
+        }
+        let ids = ids_at(self.world, back.entity);
+        if !self.push_behind_targets(back.step, ids, free, moving)? {
+            return Ok(false);
+        }
+        self.push_behind_gone(back, free, moving)
+    }
+
+    /// Adds those who may be `$this` behind who holds a pair with an entity by which a step may lead from them to it.
+    /// False, where more are looked at than so many.
+    #[cycle(behind)]
+    fn push_behind_holders(
+        &self,
+        back: StepBack<'_>,
+        free: &mut usize,
+        moving: &mut ShortList<A>,
+    ) -> Result<bool, AllocError>
+        requires asked { IsAskedBy self.now.query.now self.now.asked.now }
+        ensures { IfDone result (AddsBehind (back.entry.step).now.from
+            (λ n. flat_map (this_behind self.now n (back.entry.step).now.from)
+            (leaning (leads self.now (back.entry.step).now) self.now.world.now.state back.entry.entity))
+            moving.old.items moving.new.items) }
+    {
+        let variable = back.step.from();
+        if variable == 0 {
+            return self.push_holders(back, free, moving);
+        }
+        let mut between = ShortList::new();
+        if !self.push_holders(back, free, &mut between)? {
+            return Ok(false);
+        }
+        let entities = between.as_slice();
+        self.push_behind_all(variable, entities, free, moving)
+    }
+
+    /// Adds those who may be `$this` behind the targets of those of an entity's ids that are pairs by which a step may
+    /// lead from their target to it. False, where more are looked at than so many.
+    #[cycle(behind)]
+    fn push_behind_targets(
+        &self,
+        step: &LinkStep,
+        ids: &[Id],
+        free: &mut usize,
+        moving: &mut ShortList<A>,
+    ) -> Result<bool, AllocError>
+        requires asked { IsAskedBy self.now.query.now self.now.asked.now }
+        ensures { IfDone result (AddsBehind step.now.from (λ n. flat_map (behind_target self.now.query.now
+            self.now.world.now.state self.now.changes.now n step.now) ids.now)
+            moving.old.items moving.new.items) }
+    {
+        for id in ids {
+            if !self.push_behind_target(step, *id, free, moving)? {
+                return Ok(false);
+            }
+        }
+        Ok(true)
+    }
+
+    /// Adds those who may be `$this` behind the targets of those pairs that went from an entity. False, where more are
+    /// looked at than so many.
+    #[cycle(behind)]
+    fn push_behind_gone(
+        &self,
+        back: StepBack<'_>,
+        free: &mut usize,
+        moving: &mut ShortList<A>,
+    ) -> Result<bool, AllocError>
+        requires asked { IsAskedBy self.now.query.now self.now.asked.now }
+        ensures { IfDone result (AddsBehind (back.entry.step).now.from
+            (λ n. flat_map (behind_gone self.now.query.now self.now.world.now.state self.now.changes.now n
+            (back.entry.step).now back.entry.entity) self.now.changes.now.went)
+            moving.old.items moving.new.items) }
+    {
+        let went = self.changes.went();
+        let entity = back.entity;
+        'facts: for fact in went {
+            if fact.entity() != entity {
+                continue 'facts;
+            }
+            if !self.push_behind_target(back.step, fact.id(), free, moving)? {
+                return Ok(false);
+            }
+        }
+        Ok(true)
+    }
+
+    /// Adds those who may be `$this` behind the target of a pair, if a step may lead from that to the pair's holder.
+    /// False, where more are looked at than so many.
+    #[cycle(behind)]
+    fn push_behind_target(
+        &self,
+        step: &LinkStep,
+        id: Id,
+        free: &mut usize,
+        moving: &mut ShortList<A>,
+    ) -> Result<bool, AllocError>
+        requires asked { IsAskedBy self.now.query.now self.now.asked.now }
+        ensures { IfDone result (AddsBehind step.now.from (λ n. behind_target self.now.query.now
+            self.now.world.now.state self.now.changes.now n step.now id)
+            moving.old.items moving.new.items) }
+    {
+        let Some(target) = id.second() else {
+            return Ok(true);
+        };
+        if !step.matches(id) {
+            return Ok(true);
         }
         if !take(free, 1) {
             return Ok(false);
         }
-        let variable = one.variable();
-        if !push_behind(alloc, walk, variable, entity, free, moving)? {
+        self.push_behind(step.from(), target, free, moving)
+    }
+
+    /// Adds those who may be `$this` behind each of these entities, as those of a variable. False, where more are looked
+    /// at than so many.
+    #[cycle(behind)]
+    fn push_behind_all(
+        &self,
+        variable: usize,
+        entities: &[u32],
+        free: &mut usize,
+        moving: &mut ShortList<A>,
+    ) -> Result<bool, AllocError>
+        requires asked { IsAskedBy self.now.query.now self.now.asked.now }
+        ensures { IfDone result (AddsBehind variable (λ n. flat_map (this_behind self.now n variable) entities.now)
+            moving.old.items moving.new.items) }
+    {
+        for entity in entities {
+            if !self.push_behind(variable, *entity, free, moving)? {
+                return Ok(false);
+            }
+        }
+        Ok(true)
+    }
+
+    /// Adds those who hold a pair with an entity by which a step may lead from them to it. False, where more are looked
+    /// at than so many.
+    fn push_holders(
+        &self,
+        back: StepBack<'_>,
+        free: &mut usize,
+        found: &mut ShortList<A>,
+    ) -> Result<bool, AllocError>
+        ensures { IfDone result (Adds
+            (leaning (leads self.now (back.entry.step).now) self.now.world.now.state back.entry.entity)
+            found.old.items found.new.items) }
+    {
+        let links = self.world.links();
+        let store = links.tables().store();
+        let tables = links.tables_of(back.step.pairs_with(back.entity));
+        if tables.len() > MOST_TABLES {
             return Ok(false);
         }
+        self.push_holders_in(back, store, tables, free, found)
     }
-    Ok(true)
+
+    /// Adds those in these tables from whom a step may lead to an entity. False, where more are looked at than so many,
+    /// and then not all are added.
+    fn push_holders_in(
+        &self,
+        back: StepBack<'_>,
+        store: &TableStore<A>,
+        tables: &[ListedKey],
+        free: &mut usize,
+        found: &mut ShortList<A>,
+    ) -> Result<bool, AllocError>
+        ensures { IfDone result ((w : WorldState) → HoldTheirs w store.now
+            → Adds (filter (leans (leads self.now (back.entry.step).now) w back.entry.entity)
+            (flat_map (standing_in store.now) tables.now)) found.old.items found.new.items) }
+    {
+        'tables: for listed in tables {
+            let key = listed.key();
+            let Some(table) = store.get(key) else {
+                continue 'tables;
+            };
+            let rows = table.rows();
+            let ids = table.ids();
+            if !self.push_rows(back, ids, rows, free, found)? {
+                return Ok(false);
+            }
+        }
+        Ok(true)
+    }
+
+    /// Adds these entities, of whom each holds these ids, if a step may lead from them to another one: it may from all
+    /// of them, or from nobody. False, where more are looked at than so many: they count for one where it leads from
+    /// nobody, however many they are.
+    #[inline(always)]
+    fn push_rows(
+        &self,
+        back: StepBack<'_>,
+        ids: &[Id],
+        entities: &[EntityId],
+        free: &mut usize,
+        found: &mut ShortList<A>,
+    ) -> Result<bool, AllocError>
+        ensures { IfDone result ((w : WorldState) → HoldAll w ids.now (map (λ e. e.index) entities.now)
+            → Adds (filter (leans (leads self.now (back.entry.step).now) w back.entry.entity)
+            (map (λ e. e.index) entities.now))
+            found.old.items found.new.items) }
+    {
+        // who is there already needn't be judged
+        if are_among(found.as_slice(), entities) {
+            return Ok(true);
+        }
+        if !take(free, 1) {
+            return Ok(false);
+        }
+        if !self.may_lead(back, ids) {
+            return Ok(true);
+        }
+        if !take(free, entities.len()) {
+            return Ok(false);
+        }
+        push_each(self.alloc, entities, found)?;
+        Ok(true)
+    }
+}
+
+impl<A: Allocator, B: Allocator> Walk<'_, '_, A, B> {
+    /// Whether a step may lead to its entity from those who hold these ids. One is a pair with it by which the step
+    /// leads, so of `$this` only the others are looked at.
+    fn may_lead(&self, back: StepBack<'_>, ids: &[Id]) -> bool
+        ensures { result ≡ false → list_any (λ i. matches (pairs_to back.entry.entity) i
+            && leads self.now (back.entry.step).now ids.now i) ids.now ≡ false }
+    {
+        let variable = back.step.from();
+        if variable == 0 {
+            return !self.query.lacks(ids);
+        }
+        self.leads_from_other(back, ids)
+    }
+
+    /// Whether a step may lead to its entity from those who hold these ids, as the entities of another variable than
+    /// `$this`.
+    fn leads_from_other(&self, back: StepBack<'_>, ids: &[Id]) -> bool
+        ensures { result ≡ list_any (λ i. matches (pairs_to back.entry.entity) i
+            && (matches (back.entry.step).now.asked i
+            && any_counts_as (λ v. v == (back.entry.step).now.from) self.now.asked.now.others.items
+            (ids.now ++ map (λ k. k.1) self.now.changes.now.went) i)) ids.now }
+    {
+        for id in ids {
+            if self.leads_by_pair(back, ids, *id) {
+                return true;
+            }
+        }
+        false
+    }
+
+    /// Whether it may so by this one of the ids.
+    #[inline(always)]
+    fn leads_by_pair(&self, back: StepBack<'_>, ids: &[Id], id: Id) -> bool
+        ensures { result ≡ (matches (pairs_to back.entry.entity) id && (matches (back.entry.step).now.asked id
+            && any_counts_as (λ v. v == (back.entry.step).now.from) self.now.asked.now.others.items
+            (ids.now ++ map (λ k. k.1) self.now.changes.now.went) id)) }
+    {
+        is_pair_to(id, back.entity) && back.step.matches(id) && self.counts_from(back.step, ids, id)
+    }
+
+    /// Whether somebody who holds these ids is asked for one of them as the entity from which a step leads.
+    fn counts_from(&self, step: &LinkStep, ids: &[Id], id: Id) -> bool
+        ensures { result ≡ any_counts_as (λ v. v == step.now.from) self.now.asked.now.others.items
+            (ids.now ++ map (λ k. k.1) self.now.changes.now.went) id }
+    {
+        let others = self.asked.others();
+        let variable = step.from();
+        let went = self.changes.went();
+        any_counts_as(others, variable, ids, went, id)
+    }
 }
 
 /// Takes some of those that may still be looked at. False, where so many are no more.
@@ -135,368 +463,12 @@ fn take(free: &mut usize, count: usize) -> bool
     true
 }
 
-/// Adds those who may be `$this` behind an entity as that of a variable. False, where more are looked at than so many.
-#[cycle(behind)]
-fn push_behind<A: Allocator + Copy, B: Allocator>(
-    alloc: A,
-    walk: &Walk<'_, '_, A, B>,
-    variable: usize,
-    entity: u32,
-    free: &mut usize,
-    moving: &mut ShortList<A>,
-) -> Result<bool, AllocError>
-    requires asked { IsAskedBy walk.now.query.now walk.now.asked.now }
-    ensures { IfOk result (λ done. done ≡ true → (n : ℕ) → variable ≤ n
-        → Adds (found_behind walk.now.query.now walk.now.world.now.state walk.now.changes.now n variable entity)
-        moving.old.items moving.new.items) }
-{
-    if variable == 0 {
-        push_if_matching(alloc, walk.query, walk.world, entity, moving)?;
-        return Ok(true);
-    }
-    'each: for step in walk.asked.steps() {
-        if !leads_to(step, variable) {
-            continue 'each;
-        }
-        if !push_by_step(alloc, walk, step, entity, free, moving)? {
-            return Ok(false);
-        }
-    }
-    Ok(true)
-}
-
 /// Whether a step leads to the entity of this variable.
 #[inline(always)]
 fn leads_to(step: &LinkStep, variable: usize) -> bool
     ensures { result ≡ (step.now.to == variable) }
 {
     step.to() == variable
-}
-
-/// Adds those who may be `$this` behind those from whom a step may lead to an entity: behind who holds a pair with it,
-/// or behind the targets of such pairs that it holds, or that went from it. False, where more are looked at than so
-/// many.
-#[cycle(behind)]
-fn push_by_step<A: Allocator + Copy, B: Allocator>(
-    alloc: A,
-    walk: &Walk<'_, '_, A, B>,
-    step: &LinkStep,
-    entity: u32,
-    free: &mut usize,
-    moving: &mut ShortList<A>,
-) -> Result<bool, AllocError>
-    requires asked { IsAskedBy walk.now.query.now walk.now.asked.now }
-    ensures { IfOk result (λ done. done ≡ true → (n : ℕ) → step.now.from ≤ n
-        → Adds (flat_map (found_behind walk.now.query.now walk.now.world.now.state walk.now.changes.now n step.now.from)
-        (step_back walk.now.query.now walk.now.world.now.state walk.now.asked.now.others.items walk.now.changes.now.went
-        step.now entity)) moving.old.items
-        moving.new.items) }
-{
-    if step.is_outward() {
-        return push_behind_holders(alloc, walk, step, entity, free, moving);
-    }
-    let ids = ids_at(walk.world, entity);
-    if !push_behind_targets(alloc, walk, step, ids, free, moving)? {
-        return Ok(false);
-    }
-    push_behind_gone(alloc, walk, step, entity, free, moving)
-}
-
-/// Adds those who may be `$this` behind who holds a pair with an entity by which a step may lead from them to it.
-/// False, where more are looked at than so many.
-#[cycle(behind)]
-fn push_behind_holders<A: Allocator + Copy, B: Allocator>(
-    alloc: A,
-    walk: &Walk<'_, '_, A, B>,
-    step: &LinkStep,
-    entity: u32,
-    free: &mut usize,
-    moving: &mut ShortList<A>,
-) -> Result<bool, AllocError>
-    requires asked { IsAskedBy walk.now.query.now walk.now.asked.now }
-    ensures { IfOk result (λ done. done ≡ true → (n : ℕ) → step.now.from ≤ n
-        → Adds (flat_map (found_behind walk.now.query.now walk.now.world.now.state walk.now.changes.now n step.now.from)
-        (leaning (leads_by walk.now.query.now walk.now.asked.now.others.items walk.now.changes.now.went step.now)
-        walk.now.world.now.state entity))
-        moving.old.items moving.new.items) }
-{
-    let variable = step.from();
-    if variable == 0 {
-        return push_holders(alloc, walk, step, entity, free, moving);
-    }
-    let mut between = ShortList::new();
-    if !push_holders(alloc, walk, step, entity, free, &mut between)? {
-        return Ok(false);
-    }
-    let entities = between.as_slice();
-    push_behind_all(alloc, walk, variable, entities, free, moving)
-}
-
-/// Adds those who may be `$this` behind the targets of those of an entity's ids that are pairs by which a step may lead
-/// from their target to it. False, where more are looked at than so many.
-#[cycle(behind)]
-fn push_behind_targets<A: Allocator + Copy, B: Allocator>(
-    alloc: A,
-    walk: &Walk<'_, '_, A, B>,
-    step: &LinkStep,
-    ids: &[Id],
-    free: &mut usize,
-    moving: &mut ShortList<A>,
-) -> Result<bool, AllocError>
-    requires asked { IsAskedBy walk.now.query.now walk.now.asked.now }
-    ensures { IfOk result (λ done. done ≡ true → (n : ℕ) → step.now.from ≤ n
-        → Adds (flat_map (behind_target walk.now.query.now walk.now.world.now.state walk.now.changes.now n step.now)
-        ids.now) moving.old.items
-        moving.new.items) }
-{
-    for id in ids {
-        if !push_behind_target(alloc, walk, step, *id, free, moving)? {
-            return Ok(false);
-        }
-    }
-    Ok(true)
-}
-
-/// Adds those who may be `$this` behind the targets of those pairs that went from an entity. False, where more are
-/// looked at than so many.
-#[cycle(behind)]
-fn push_behind_gone<A: Allocator + Copy, B: Allocator>(
-    alloc: A,
-    walk: &Walk<'_, '_, A, B>,
-    step: &LinkStep,
-    entity: u32,
-    free: &mut usize,
-    moving: &mut ShortList<A>,
-) -> Result<bool, AllocError>
-    requires asked { IsAskedBy walk.now.query.now walk.now.asked.now }
-    ensures { IfOk result (λ done. done ≡ true → (n : ℕ) → step.now.from ≤ n
-        → Adds (flat_map (behind_gone walk.now.query.now walk.now.world.now.state walk.now.changes.now n step.now
-        entity) walk.now.changes.now.went)
-        moving.old.items moving.new.items) }
-{
-    let went = walk.changes.went();
-    'facts: for fact in went {
-        if fact.entity() != entity {
-            continue 'facts;
-        }
-        if !push_behind_target(alloc, walk, step, fact.id(), free, moving)? {
-            return Ok(false);
-        }
-    }
-    Ok(true)
-}
-
-/// Adds those who may be `$this` behind the target of a pair, if a step may lead from that to the pair's holder. False,
-/// where more are looked at than so many.
-#[cycle(behind)]
-fn push_behind_target<A: Allocator + Copy, B: Allocator>(
-    alloc: A,
-    walk: &Walk<'_, '_, A, B>,
-    step: &LinkStep,
-    id: Id,
-    free: &mut usize,
-    moving: &mut ShortList<A>,
-) -> Result<bool, AllocError>
-    requires asked { IsAskedBy walk.now.query.now walk.now.asked.now }
-    ensures { IfOk result (λ done. done ≡ true → (n : ℕ) → step.now.from ≤ n
-        → Adds (behind_target walk.now.query.now walk.now.world.now.state walk.now.changes.now n step.now id)
-        moving.old.items moving.new.items) }
-{
-    let Some(target) = id.second() else {
-        return Ok(true);
-    };
-    if !step.matches(id) {
-        return Ok(true);
-    }
-    if !take(free, 1) {
-        return Ok(false);
-    }
-    push_behind(alloc, walk, step.from(), target, free, moving)
-}
-
-/// Adds those who may be `$this` behind each of these entities, as those of a variable. False, where more are looked at
-/// than so many.
-#[cycle(behind)]
-fn push_behind_all<A: Allocator + Copy, B: Allocator>(
-    alloc: A,
-    walk: &Walk<'_, '_, A, B>,
-    variable: usize,
-    entities: &[u32],
-    free: &mut usize,
-    moving: &mut ShortList<A>,
-) -> Result<bool, AllocError>
-    requires asked { IsAskedBy walk.now.query.now walk.now.asked.now }
-    ensures { IfOk result (λ done. done ≡ true → (n : ℕ) → variable ≤ n
-        → Adds (flat_map (found_behind walk.now.query.now walk.now.world.now.state walk.now.changes.now n variable)
-        entities.now) moving.old.items
-        moving.new.items) }
-{
-    for entity in entities {
-        if !push_behind(alloc, walk, variable, *entity, free, moving)? {
-            return Ok(false);
-        }
-    }
-    Ok(true)
-}
-
-/// Adds those who hold a pair with an entity by which a step may lead from them to it. False, where more are looked at
-/// than so many.
-fn push_holders<A: Allocator + Copy, B: Allocator>(
-    alloc: A,
-    walk: &Walk<'_, '_, A, B>,
-    step: &LinkStep,
-    target: u32,
-    free: &mut usize,
-    found: &mut ShortList<A>,
-) -> Result<bool, AllocError>
-    ensures { IfOk result (λ done. done ≡ true → Adds (leaning (leads_by walk.now.query.now
-        walk.now.asked.now.others.items walk.now.changes.now.went step.now)
-        walk.now.world.now.state target) found.old.items found.new.items) }
-{
-    let links = walk.world.links();
-    let store = links.tables().store();
-    let tables = links.tables_of(step.pairs_with(target));
-    if tables.len() > MOST_TABLES {
-        return Ok(false);
-    }
-    push_holders_in(alloc, walk, step, store, tables, target, free, found)
-}
-
-/// Adds those in these tables from whom a step may lead to an entity. False, where more are looked at than so many, and
-/// then not all are added.
-fn push_holders_in<A: Allocator + Copy, B: Allocator>(
-    alloc: A,
-    walk: &Walk<'_, '_, A, B>,
-    step: &LinkStep,
-    store: &TableStore<A>,
-    tables: &[ListedKey],
-    target: u32,
-    free: &mut usize,
-    found: &mut ShortList<A>,
-) -> Result<bool, AllocError>
-    ensures { IfOk result (λ done. done ≡ true → (w : WorldState) → HoldTheirs w store.now
-        → Adds (filter (leans (leads_by walk.now.query.now walk.now.asked.now.others.items walk.now.changes.now.went
-        step.now) w target)
-        (flat_map (standing_in store.now) tables.now)) found.old.items found.new.items) }
-{
-    'tables: for listed in tables {
-        let key = listed.key();
-        let Some(table) = store.get(key) else {
-            continue 'tables;
-        };
-        let rows = table.rows();
-        let ids = table.ids();
-        if !push_rows(alloc, walk, step, ids, rows, target, free, found)? {
-            return Ok(false);
-        }
-    }
-    Ok(true)
-}
-
-/// Adds these entities, of whom each holds these ids, if a step may lead from them to another one: it may from all of
-/// them, or from nobody. False, where more are looked at than so many: they count for one where it leads from nobody,
-/// however many they are.
-#[inline(always)]
-fn push_rows<A: Allocator + Copy, B: Allocator>(
-    alloc: A,
-    walk: &Walk<'_, '_, A, B>,
-    step: &LinkStep,
-    ids: &[Id],
-    entities: &[EntityId],
-    target: u32,
-    free: &mut usize,
-    found: &mut ShortList<A>,
-) -> Result<bool, AllocError>
-    ensures { IfOk result (λ done. done ≡ true → (w : WorldState) → HoldAll w ids.now (map (λ e. e.index) entities.now)
-        → Adds (filter (leans (leads_by walk.now.query.now walk.now.asked.now.others.items walk.now.changes.now.went
-        step.now) w target)
-        (map (λ e. e.index) entities.now)) found.old.items found.new.items) }
-{
-    // who is there already needn't be judged
-    if are_among(found.as_slice(), entities) {
-        return Ok(true);
-    }
-    if !take(free, 1) {
-        return Ok(false);
-    }
-    if !may_lead(walk, step, target, ids) {
-        return Ok(true);
-    }
-    if !take(free, entities.len()) {
-        return Ok(false);
-    }
-    push_each(alloc, entities, found)?;
-    Ok(true)
-}
-
-/// Whether a step may lead to a target from those who hold these ids. One is a pair with it by which the step leads, so
-/// of `$this` only the others are looked at.
-fn may_lead<A: Allocator, B: Allocator>(
-    walk: &Walk<'_, '_, A, B>,
-    step: &LinkStep,
-    target: u32,
-    ids: &[Id],
-) -> bool
-    ensures { result ≡ false → list_any (λ i. matches (pairs_to target) i
-        && leads_by walk.now.query.now walk.now.asked.now.others.items walk.now.changes.now.went step.now ids.now i)
-        ids.now ≡ false }
-{
-    let variable = step.from();
-    if variable == 0 {
-        return !walk.query.lacks(ids);
-    }
-    leads_from_other(walk, step, target, ids)
-}
-
-/// Whether a step may lead to a target from those who hold these ids, as the entities of another variable than `$this`.
-fn leads_from_other<A: Allocator, B: Allocator>(
-    walk: &Walk<'_, '_, A, B>,
-    step: &LinkStep,
-    target: u32,
-    ids: &[Id],
-) -> bool
-    ensures { result ≡ list_any (λ i. matches (pairs_to target) i
-        && (matches step.now.asked i && any_counts_as (λ v. v == step.now.from) walk.now.asked.now.others.items
-        (ids.now ++ map (λ k. k.1) walk.now.changes.now.went) i)) ids.now }
-{
-    for id in ids {
-        if leads_by_pair(walk, step, target, ids, *id) {
-            return true;
-        }
-    }
-    false
-}
-
-/// Whether it may so by this one of the ids.
-#[inline(always)]
-fn leads_by_pair<A: Allocator, B: Allocator>(
-    walk: &Walk<'_, '_, A, B>,
-    step: &LinkStep,
-    target: u32,
-    ids: &[Id],
-    id: Id,
-) -> bool
-    ensures { result ≡ (matches (pairs_to target) id && (matches step.now.asked id
-        && any_counts_as (λ v. v == step.now.from) walk.now.asked.now.others.items
-        (ids.now ++ map (λ k. k.1) walk.now.changes.now.went) id)) }
-{
-    is_pair_to(id, target) && step.matches(id) && counts_from(walk, step, ids, id)
-}
-
-/// Whether somebody who holds these ids is asked for one of them as the entity from which a step leads.
-fn counts_from<A: Allocator, B: Allocator>(
-    walk: &Walk<'_, '_, A, B>,
-    step: &LinkStep,
-    ids: &[Id],
-    id: Id,
-) -> bool
-    ensures { result ≡ any_counts_as (λ v. v == step.now.from) walk.now.asked.now.others.items
-        (ids.now ++ map (λ k. k.1) walk.now.changes.now.went) id }
-{
-    let others = walk.asked.others();
-    let variable = step.from();
-    let went = walk.changes.went();
-    any_counts_as(others, variable, ids, went, id)
 }
 
 /// Whether somebody who has held no other ids than these, and those of these facts, is asked for an id as the entity of

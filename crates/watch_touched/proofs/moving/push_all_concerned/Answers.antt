@@ -20,8 +20,8 @@ returns-clause-others g c =
     let p = concerns_others c.args.query.now in
     let changed = c.args.changes.now in
     on_ok_weaker c.push_concerned-2.result
-    (λ e. e ∙ (λ i. (c.in_ok-push_concerned.ensures.others ∙ (λ j. c.args.others.now.items ++ entities_by p (c.came.ensures j))) i ++ entities_by p (c.went.ensures i))
-    ∙ append_assoc c.args.others.now.items (entities_by p changed.came) (entities_by p changed.went))
+    (λ e. e ∙ (λ i. (c.in_ok-push_concerned.ensures.others ∙ (λ j. c.args.targets.now.others.items ++ entities_by p (c.came.ensures j))) i ++ entities_by p (c.went.ensures i))
+    ∙ append_assoc c.args.targets.now.others.items (entities_by p changed.came) (entities_by p changed.went))
     c.push_concerned-2.ensures.others
 
 pub returns-clause-below : goal.returns-clause-below
@@ -29,6 +29,6 @@ returns-clause-below g c =
     let p = concerns_below c.args.query.now in
     let changed = c.args.changes.now in
     on_ok_weaker c.push_concerned-2.result
-    (λ e. e ∙ (λ i. (c.in_ok-push_concerned.ensures.below ∙ (λ j. c.args.below.now.items ++ entities_by p (c.came.ensures j))) i ++ entities_by p (c.went.ensures i))
-    ∙ append_assoc c.args.below.now.items (entities_by p changed.came) (entities_by p changed.went))
+    (λ e. e ∙ (λ i. (c.in_ok-push_concerned.ensures.below ∙ (λ j. c.args.targets.now.below.items ++ entities_by p (c.came.ensures j))) i ++ entities_by p (c.went.ensures i))
+    ∙ append_assoc c.args.targets.now.below.items (entities_by p changed.came) (entities_by p changed.went))
     c.push_concerned-2.ensures.below

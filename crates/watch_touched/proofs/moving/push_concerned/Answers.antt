@@ -18,8 +18,8 @@ loop-fact-preserved g c =
     record {
       own = gathered_more (concerns q) ks at k c.args.own.now.items c.loop-fact.own.items c.push_if_concerned.new.own.items (concerns q k.1) k.0 lt inv.own
           (ap (λ (k : Key). concerns q k.1) c.fact-item.is) entity now.own;
-      others = gathered_more (concerns_others q) ks at k c.args.others.now.items c.loop-fact.others.items c.push_if_concerned.new.others.items (concerns_others q k.1) k.0 lt inv.others
+      others = gathered_more (concerns_others q) ks at k c.args.targets.now.others.items c.loop-fact.targets.others.items c.push_if_concerned.new.targets.others.items (concerns_others q k.1) k.0 lt inv.others
           (ap (λ (k : Key). concerns_others q k.1) c.fact-item.is) entity now.others;
-      below = gathered_more (concerns_below q) ks at k c.args.below.now.items c.loop-fact.below.items c.push_if_concerned.new.below.items (concerns_below q k.1) k.0 lt inv.below
+      below = gathered_more (concerns_below q) ks at k c.args.targets.now.below.items c.loop-fact.targets.below.items c.push_if_concerned.new.targets.below.items (concerns_below q k.1) k.0 lt inv.below
           (ap (λ (k : Key). concerns_below q k.1) c.fact-item.is) entity now.below;
     }

@@ -11,9 +11,9 @@ returns-clause-own g c =
 pub returns-clause-others : goal.returns-clause-others
 returns-clause-others g c =
     let of = c.concern_of-concern.ensures ∙ ap (concern_of c.args.query.now) c.id.ensures in
-    c.in_ok-push_if-2.ensures ∙ (λ j. c.args.others.now.items ++ (if (of j).others then c.entity-entity.ensures j ∷ [] else []))
+    c.in_ok-push_if-2.ensures ∙ (λ j. c.args.targets.now.others.items ++ (if (of j).others then c.entity-entity.ensures j ∷ [] else []))
 
 pub returns-clause-below : goal.returns-clause-below
 returns-clause-below g c =
     let of = c.concern_of-concern.ensures ∙ ap (concern_of c.args.query.now) c.id.ensures in
-    c.in_ok-push_if-3.ensures ∙ (λ j. c.args.below.now.items ++ (if (of j).below then c.entity-entity.ensures j ∷ [] else []))
+    c.in_ok-push_if-3.ensures ∙ (λ j. c.args.targets.now.below.items ++ (if (of j).below then c.entity-entity.ensures j ∷ [] else []))

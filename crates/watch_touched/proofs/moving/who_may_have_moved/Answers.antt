@@ -1,26 +1,27 @@
-use Rattle.std.specs.Prelude.{◌≡◌, ◌++◌, true}
-use Rattle.std.proofs.Common.{arith, sym, true≢false, ◌∙◌}
+use Rattle.std.specs.Prelude.{◌≡◌, ◌++◌, ℕ, List, true}
+use Rattle.std.specs.List.{Contains}
+use Rattle.std.proofs.Common.{arith, subst, sym, true≢false, ◌∙◌}
 use Rattle.watch_concerns.specs.Concerns.{concerns}
 use Rattle.watch_concerns.specs.Others.{concerns_below, concerns_others}
 use Rattle.watch_touched.specs.Moving.{entities_of, finds_moving}
 use Rattle.watch_touched.proofs.CountedConcerns.{all_followed, none_concerned, somebody_concerned}
 use Rattle.watch_touched.proofs.moving.who_may_have_moved.Goals as goal
 
-pub push_all_moving-requires-clause-own : goal.push_all_moving-requires-clause-own
-push_all_moving-requires-clause-own g c = c.in_ok-push_all_concerned.ensures.own ∙ (λ i. c.requires.none i ++ entities_of (concerns c.args.query.now) c.args.changes.now)
-
-pub push_all_moving-requires-clause-others : goal.push_all_moving-requires-clause-others
-push_all_moving-requires-clause-others g c = c.in_ok-push_all_concerned.ensures.others ∙ (λ i. c.new-others.ensures i ++ entities_of (concerns_others c.args.query.now) c.args.changes.now)
-
-pub push_all_moving-requires-clause-below : goal.push_all_moving-requires-clause-below
-push_all_moving-requires-clause-below g c = c.in_ok-push_all_concerned.ensures.below ∙ (λ i. c.new-below.ensures i ++ entities_of (concerns_below c.args.query.now) c.args.changes.now)
-
-pub push_all_moving-requires-clause-followed : goal.push_all_moving-requires-clause-followed
-push_all_moving-requires-clause-followed g c =
+pub push_all_moving-requires : goal.push_all_moving-requires
+push_all_moving-requires g c =
     let q = c.args.query.now in
     let changed = c.args.changes.now in
-    let others = c.in_ok-push_all_concerned.ensures.others ∙ (λ i. c.new-others.ensures i ++ entities_of (concerns_others q) changed) in
-    sym (all_followed q changed c.args.bonds c.requires.bonds c.len-2.result c.push_all_concerned.new.others.items others c.len-2.ensures) ∙ sym c.finds_moving.ensures ∙ c.if-not-finds_moving.false
+    let own = c.in_ok-push_all_concerned.ensures.own ∙ (λ i. c.requires.none i ++ entities_of (concerns q) changed) in
+    let others = c.in_ok-push_all_concerned.ensures.others ∙ (λ i. c.new.ensures i ++ entities_of (concerns_others q) changed) in
+    record {
+      bonds = c.requires.bonds;
+      after = c.requires.after;
+      sound = c.requires.sound;
+      found = sym (all_followed q changed c.args.bonds c.requires.bonds c.len-2.result c.push_all_concerned.new.targets.others.items others c.len-2.ensures) ∙ sym c.finds_moving.ensures ∙ c.if-not-finds_moving.false;
+      own = λ e. (subst (λ (es : List ℕ). Contains es e) own, subst (λ (es : List ℕ). Contains es e) (sym own));
+      others = others;
+      below = c.in_ok-push_all_concerned.ensures.below ∙ (λ i. c.new-2.ensures i ++ entities_of (concerns_below q) changed);
+    }
 
 pub returns-then-is_nobody-clause-concerned : goal.returns-then-is_nobody-clause-concerned
 returns-then-is_nobody-clause-concerned g c same =
@@ -59,8 +60,8 @@ pub returns-clause-unknown : goal.returns-clause-unknown
 returns-clause-unknown g c loose concerned =
     let q = c.args.query.now in
     let changed = c.args.changes.now in
-    let others = c.in_ok-push_all_concerned.ensures.others ∙ (λ i. c.new-others.ensures i ++ entities_of (concerns_others q) changed) in
-    let followed : finds_moving q changed ≡ true = sym (all_followed q changed c.args.bonds c.requires.bonds c.len-2.result c.push_all_concerned.new.others.items others c.len-2.ensures)
+    let others = c.in_ok-push_all_concerned.ensures.others ∙ (λ i. c.new.ensures i ++ entities_of (concerns_others q) changed) in
+    let followed : finds_moving q changed ≡ true = sym (all_followed q changed c.args.bonds c.requires.bonds c.len-2.result c.push_all_concerned.new.targets.others.items others c.len-2.ensures)
     ∙ sym c.finds_moving.ensures ∙ c.if-not-finds_moving.false in
     absurd (true≢false (sym followed ∙ loose))
 
