@@ -1,12 +1,11 @@
 -- One more text after what was sent and what is still to be.
 use Rattle.std.proofs.Common.{◌≡◌, ◌≤◌, ℕ, List, [], ◌∷◌, ◌++◌, length, take, drop, refl, sym, ap, ◌∙◌, subst, append_assoc, arith}
 use Rattle.std.specs.Prelude.{Contains, Option, Some, Result, Ok, Err, IsErrAnd, OnErr}
-use Rattle.std.specs.Io.{StartsWith}
 use Rattle.std.specs.Io.KnownBytes.{Appends}
 use Rattle.std.proofs.KnownBytes.{Appends-nil, Appends-trans}
 use Rattle.std.proofs.lemmas.List.{take-append-drop}
 use Rattle.ecs_print.specs.Stops.{StopsWithin}
-use Rattle.ecs_print.proofs.Stops.{stops_behind, stops_front, stops_past, stops_same, stops_sooner}
+use Rattle.ecs_print.proofs.Stops.{stops_behind, stops_past, stops_same, stops_sooner}
 use Rattle.script_streams.specs.declared.streams.Calls.{Calls}
 use Rattle.script_streams.specs.Streams.{IsCalm, TakesFront}
 use Rattle.world_query.specs.declared.sending.SendError.{SendError}
@@ -112,9 +111,6 @@ sent_nowhere before after text so = ap (λ s. s ++ after) so.wrote ∙ so.whole
 
 pub stops_unsent : {P : Type 0} (before after text : List ℕ) → StopsSending P (Some []) (Some []) before after text → StopsWithin before after text
 stops_unsent before after text so = subst (λ s. StopsWithin before (s ++ after) text) (none_sent so.sent so.part so.wrote) so.stops
-
-pub stops_nowhere : {P : Type 0} (before after text : List ℕ) → StopsSending P (Some []) (Some []) before after text → StartsWith after before
-stops_nowhere before after text so = stops_front before after text (stops_unsent before after text so)
 
 -- calls stay calm where no fault is answered
 pub calm_still : {T : Type 0} (old new : Calls) (answer : T) → FailsAtWrite old (Ok answer) new → IsCalm old → IsCalm new
