@@ -13,3 +13,4 @@ mod Chains
 mod Sheets
 pub mod Fronts
 pub mod SentTexts
+pub mod Sends

@@ -1,9 +1,10 @@
 -- What has become of a text where a writer takes what stands in a list before it is whole.
-use Rattle.std.specs.Prelude.{◌≡◌, ◌≤◌, ⊤, ℕ, List, [], ◌++◌, length, Contains, Option, Result, Ok, Err, IsErrAnd}
+use Rattle.std.specs.Prelude.{◌≡◌, ◌≤◌, ⊤, ℕ, List, [], ◌++◌, length, max, Contains, Option, Result, Ok, Err, IsErrAnd, OnErr, OnOk}
 use Rattle.std.specs.Io.KnownBytes.{Appends}
 use Rattle.ecs_print.specs.Stops.{StopsWithin}
 use Rattle.script_streams.specs.declared.streams.Calls.{Calls}
 use Rattle.script_streams.specs.Streams.{IsCalm, IsFaulty}
+use Rattle.world_query.specs.declared.sending.Outlet.{Outlet}
 use Rattle.world_query.specs.declared.sending.SendError.{SendError}
 use Rattle.world_query.specs.declared.sending.SendError.TheVariants.{Memory, Write}
 
@@ -53,3 +54,27 @@ HoldsAtFault most lines (Err Write) after = HoldsOneLine most lines after
 -- where so many bytes may stand, none are sent
 abbrev pub most_usize : ℕ
 most_usize = 18446744073709551615
+
+-- an outlet is the same, though its writer may have taken bytes: none where so many may wait
+pub record IsSameOutlet {W : Type 0} (old new : Outlet W) : Type 0 where
+  pub most : new.most ≡ old.most
+  pub writer : new.writer.ghost_name ≡ old.writer.ghost_name
+  pub kept : old.most ≡ most_usize → new.writer.now ≡ old.writer.now
+
+-- a text of these lines was put behind what a list held, and went out as it came: no more than may wait, or than was there before, is left. Or a front of it was, and where a write failed the list holds one line more than that
+pub record Sends {T W : Type 0} (contents : W → Option (List ℕ)) (calls : W → Calls) (text : List ℕ) (lines : List (List ℕ)) (old : Outlet W) (before : List ℕ) (result : Result T SendError) (new : Outlet W) (after : List ℕ) : Type 0 where
+  pub outlet : IsSameOutlet old new
+  pub rows : OnOk result (IsSent (contents old.writer.now) (contents new.writer.now) before after text)
+  pub few : OnOk result (length after ≤ max old.most (length before))
+  pub front : OnErr result (StopsSending (IsRefused result) (contents old.writer.now) (contents new.writer.now) before after text)
+  pub held : HoldsAtFault (max old.most (length before)) lines result after
+  pub writes : FailsAtWrite (calls old.writer.now) result (calls new.writer.now)
+
+-- what a list held was sent, or no more stands there than may wait; where a write failed, a front of it was sent, and the list is as it was
+pub record Drains {T W : Type 0} (contents : W → Option (List ℕ)) (calls : W → Calls) (old : Outlet W) (before : List ℕ) (result : Result T SendError) (new : Outlet W) (after : List ℕ) : Type 0 where
+  pub outlet : IsSameOutlet old new
+  pub sent : OnOk result (IsSent (contents old.writer.now) (contents new.writer.now) before after [])
+  pub unsent : OnOk result (length after ≤ old.most)
+  pub front : (text : List ℕ) → OnErr result (StopsSending (IsRefused result) (contents old.writer.now) (contents new.writer.now) before after text)
+  pub same : OnErr result (after ≡ before)
+  pub writes : FailsAtWrite (calls old.writer.now) result (calls new.writer.now)

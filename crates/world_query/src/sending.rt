@@ -1,7 +1,7 @@
 //! Rows that go to a writer as soon as many bytes of them have come together.
 
 ghost use Rattle.std.specs.Prelude.{◌≡◌, ◌≤◌, ℕ, List, [], OnErr, OnOk, length};
-ghost use Rattle.world_query.specs.Sent.{FailsAtWrite, IsRefused, IsSent, StopsSending, most_usize};
+ghost use Rattle.world_query.specs.Sent.{Drains, FailsAtWrite, IsRefused, IsSent, StopsSending, most_usize};
 
 use crate::sheet::Sheet;
 use script_streams::{Fault, Sink, Stop, write_all};
@@ -81,25 +81,27 @@ pub fn send_list<A: Allocator, W: Sink>(
     Ok(())
 }
 
-/// Sends what is written on a sheet where that is more than so many bytes. Then nothing is written there.
-#[inline(always)]
-pub(crate) fn send_beyond<A: Allocator, W: Sink>(
-    most: usize,
-    writer: &mut W,
-    sheet: &mut Sheet<A>,
-) -> Result<(), SendError>
-    ensures sent { OnOk result (IsSent (W.contents writer.old) (W.contents writer.new) sheet.old sheet.new []) }
-    ensures unsent { OnOk result (length sheet.new ≤ most) }
-    ensures front { (text : List ℕ) → OnErr result (StopsSending (IsRefused result) (W.contents writer.old)
-        (W.contents writer.new) sheet.old sheet.new text) }
-    ensures same { OnErr result (sheet.new ≡ sheet.old) }
-    ensures writes { FailsAtWrite (W.calls writer.old) result (W.calls writer.new) }
-    ensures kept { most ≡ most_usize → writer.new ≡ writer.old }
-{
-    if sheet.len() <= most {
-        return Ok(());
+/// Where rows go as they are written: to a writer, for which at most so many bytes wait.
+#[derive(Drop)]
+pub(crate) struct Outlet<'s, W> {
+    pub(crate) most: usize,
+    pub(crate) writer: &'s mut W,
+}
+
+impl<'s, W: Sink> Outlet<'s, W> {
+    /// Sends what is written on a sheet where that is more than may wait. Then nothing is written there.
+    #[inline(always)]
+    pub(crate) fn send_beyond<A: Allocator>(
+        &mut self,
+        sheet: &mut Sheet<A>,
+    ) -> Result<(), SendError>
+        ensures { Drains W.contents W.calls self.old sheet.old result self.new sheet.new }
+    {
+        if sheet.len() <= self.most {
+            return Ok(());
+        }
+        send(self.writer, sheet)
     }
-    send(writer, sheet)
 }
 
 /// Sends what is written on a sheet.
