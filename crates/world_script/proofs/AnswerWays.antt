@@ -17,7 +17,6 @@ pub on_ok_two : {T E P Q R : Type 0} (r : Result T E) → (P → Q → R) → On
 on_ok_two (Ok x) f p q = f p q
 on_ok_two (Err e) f p q = tt
 
--- what holds anyway holds of an error
 -- calls stay calm where no fault is answered
 pub FaultyAt-ok : {T : Type 0} (error : RunError) (old new : Calls) (answer : T) → FaultyAt error old (Ok answer) new → IsCalm old → IsCalm new
 FaultyAt-ok error old new answer told calm =

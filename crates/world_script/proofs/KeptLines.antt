@@ -21,11 +21,7 @@ kept_front a b = take-front 4097 a b
 pub kept_again : (front part : List ℕ) → front ≡ kept part → kept front ≡ kept part
 kept_again front part e = ap kept e ∙ take-take 4097 4097 part (omega arith)
 
--- an empty front is that of an empty part
-pub kept-empty : (part : List ℕ) → length (kept part) ≡ 0 → part ≡ []
-kept-empty [] none = refl
-kept-empty (b ∷ bs) none = absurd (omega (arith, none, length-take 4097 (b ∷ bs)))
-
+-- a front with something in it is that of a part with something in it
 pub kept-some : (part : List ℕ) → ¬ (length (kept part) ≡ 0) → 0 < length part
 kept-some [] some = absurd (some refl)
 kept-some (b ∷ bs) some = omega arith
