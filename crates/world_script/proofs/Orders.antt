@@ -30,6 +30,9 @@ use Rattle.ecs_observe.specs.Answers.{AnswersApply, AnswersRows, carried_out}
 use Rattle.ecs_observe.specs.Standing.{Standing, session_of}
 use Rattle.ecs_observe.specs.declared.errors.SessionError.{SessionError}
 use Rattle.ecs_observe.specs.declared.errors.SessionError.TheVariants.{Refused, Memory}
+use Rattle.script_line.specs.declared.Deed.{Deed}
+use Rattle.script_line.specs.declared.Deed.TheVariants as deed
+use Rattle.script_line.specs.Line.{deed_form}
 use Rattle.world_script.specs.Run.{IsDone}
 use Rattle.ecs_observe.specs.Commands.{FindsBoth}
 use Rattle.world_script.specs.Told.{TellsAccepted, TellsRefusal, TellsError, TellsAnswer, TellsBorn}
@@ -205,20 +208,13 @@ module _ (r : Result Bool AllocError) (s : Standing) (n : ℕ) (before after : L
       let P : Answer → Type 0 = λ a. IsDone (order_effect (session_of s) n (InWorld order) a) (session_of s) before after refused in
       subst P (sym (apply-unfound (session_of s) order reason (waits-none s none) (command_in s w order same ∙ e))) (IsDone-refused (session_of s) n (refusal_text reason) before after refused told))
 
-  pub IfOk-add_unfound : (w : World) (entity : EntityRef) (id : IdRef) (reason : Refusal) → s.waiting ≡ None → w ≡ s.world → FindsBoth w.state entity id (Err reason)
-      → IfOk r (TellsRefusal n (refusal_text reason) before after) → MayLeave (CarryOut (InWorld (AddTo entity id)))
+  -- a deed whose references are
+  pub IfOk-deed_unfound : (d : Deed) (w : World) (entity : EntityRef) (id : IdRef) (values : List ℤ) (reason : Refusal) → s.waiting ≡ None → w ≡ s.world → FindsBoth w.state entity id (Err reason)
+      → IfOk r (TellsRefusal n (refusal_text reason) before after) → MayLeave (deed_form d entity id values)
   unfolding command_of
-  IfOk-add_unfound w entity id reason none same finds = IfOk-unfound w (AddTo entity id) reason none same (finds Add)
-
-  pub IfOk-set_unfound : (w : World) (entity : EntityRef) (id : IdRef) (values : List ℤ) (reason : Refusal) → s.waiting ≡ None → w ≡ s.world → FindsBoth w.state entity id (Err reason)
-      → IfOk r (TellsRefusal n (refusal_text reason) before after) → MayLeave (CarryOut (InWorld (SetIn entity id values)))
-  unfolding command_of
-  IfOk-set_unfound w entity id values reason none same finds = IfOk-unfound w (SetIn entity id values) reason none same (finds (λ e i. SetValue e i values))
-
-  pub IfOk-remove_unfound : (w : World) (entity : EntityRef) (id : IdRef) (reason : Refusal) → s.waiting ≡ None → w ≡ s.world → FindsBoth w.state entity id (Err reason)
-      → IfOk r (TellsRefusal n (refusal_text reason) before after) → MayLeave (CarryOut (InWorld (RemoveFrom entity id)))
-  unfolding command_of
-  IfOk-remove_unfound w entity id reason none same finds = IfOk-unfound w (RemoveFrom entity id) reason none same (finds Remove)
+  IfOk-deed_unfound deed.Set w entity id values reason none same finds = IfOk-unfound w (SetIn entity id values) reason none same (finds (λ e i. SetValue e i values))
+  IfOk-deed_unfound deed.Add w entity id values reason none same finds = IfOk-unfound w (AddTo entity id) reason none same (finds Add)
+  IfOk-deed_unfound deed.Remove w entity id values reason none same finds = IfOk-unfound w (RemoveFrom entity id) reason none same (finds Remove)
 
   pub IfOk-delete_unfound : (w : World) (entity : EntityRef) (reason : Refusal) → s.waiting ≡ None → w ≡ s.world → entity_found w.state entity ≡ Err reason
       → IfOk r (TellsRefusal n (refusal_text reason) before after) → MayLeave (CarryOut (InWorld (DeleteOne entity)))

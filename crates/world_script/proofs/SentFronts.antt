@@ -1,6 +1,6 @@
 -- What a line does where a prefix of what it prints is sent before it ends.
 use Rattle.std.proofs.Common.{◌≡◌, ◌⊎◌, ℕ, ◌+◌, Bool, true, inl, inr, cond, take, List, [], ◌++◌, length, Option, refl, sym, ◌∙◌, ap, subst, append_assoc, arith, length-append}
-use Rattle.std.specs.Prelude.{IfErr, IfOk, Result, Ok, Err, IsErrAnd, None, OnErr, OnOk, ⊤}
+use Rattle.std.specs.Prelude.{IfErr, Result, Ok, Err, IsErrAnd, None, OnErr, OnOk, ⊤}
 use Rattle.std.specs.Io.KnownBytes.{Appends}
 use Rattle.std.proofs.KnownBytes.{Appends-nil, Appends-trans}
 use Rattle.std.proofs.Math.Seq.{take-append_seam}
@@ -8,7 +8,7 @@ use Rattle.std.specs.declared.alloc.AllocError.{AllocError}
 use Rattle.query_model.specs.Query.{Query}
 use Rattle.ecs_model.specs.Output.{Effect, effect_of}
 use Rattle.ecs_model.specs.Query.{query_of}
-use Rattle.ecs_model.specs.Script.{Ask, AskKept}
+use Rattle.ecs_model.specs.Script.{Ask, AskKept, Form}
 use Rattle.ecs_model.specs.rows.Text.{rows_text}
 use Rattle.ecs_world.specs.Standing.{Standing as World}
 use Rattle.ecs_observe.specs.Answers.{FailsAtSend, SendsKept}
@@ -28,7 +28,8 @@ use Rattle.world_query.proofs.SentTexts.{calm_memory, taken_front}
 use Rattle.world_script.specs.declared.errors.RunError.{RunError}
 use Rattle.world_script.specs.declared.errors.RunError.TheVariants as run
 use Rattle.world_script.specs.declared.lines.Summary.{Summary}
-use Rattle.world_script.specs.Run.{Does, DoesLine, IsDone, line_effect, unsent}
+use Rattle.world_script.specs.declared.interpreters.Interpreter.{Interpreter}
+use Rattle.world_script.specs.Run.{Does, DoesLine, Obeys, form_effect, line_effect, unsent}
 use Rattle.world_script.specs.Running.{HasEnded, HasRun, IsRunning, RunsLine, send_error}
 use Rattle.world_script.specs.Whole.{FaultyAt, WroteFront}
 use Rattle.world_script.proofs.AnswerWays.{apart, err_is}
@@ -49,35 +50,37 @@ ok_apart x is = let P : Result _ SendError → Type 0 = λ r. OnErr r ⊥ in sub
 -- ---- one line
 
 -- the writer has taken nothing
-module _ {W : Type 0} (contents : W → Option (List ℕ)) (calls : W → Calls) (old new : W) (most : ℕ) (e : Effect) (s : SessionState) (before after : List ℕ)
+module _ {A W : Type 0} (form : Form) (i j : Interpreter A) (contents : W → Option (List ℕ)) (calls : W → Calls) (old new : W) (most : ℕ)
     (same : contents new ≡ contents old) (calms : IsCalm (calls old) → IsCalm (calls new)) (kept : most ≡ most_usize → new ≡ old) where
-  does_unsent : (r : Result Bool AllocError) → IfOk r (IsDone e s before after) → DoesLine e s contents calls old new most before after (unsent r)
+  does_unsent : (r : Result Bool AllocError) → Obeys form i j r → DoesLine form i j contents calls old new most (unsent r)
   does_unsent (Ok refused) done = record {
     does = ([], subst (λ bytes. Appends (contents old) bytes []) (sym same) (Appends-nil (contents old)), done);
     writes = λ calm. (λ is. absurd (ok_apart refused is), λ _. calms calm);
     kept = kept;
   }
-  does_unsent (Err error) done = record {
-    does = subst (λ bytes. TakesFront (contents old) bytes (before ++ e.printed)) (sym same) (TakesFront-none (contents old) (before ++ e.printed));
-    writes = λ calm. (λ is. absurd (memory_apart (Err send.Memory) refl is), λ _. calms calm);
-    kept = kept;
-  }
+  does_unsent (Err error) done =
+      let text = i.output.items ++ (form_effect i form).printed in
+      record {
+        does = subst (λ bytes. TakesFront (contents old) bytes text) (sym same) (TakesFront-none (contents old) text);
+        writes = λ calm. (λ is. absurd (memory_apart (Err send.Memory) refl is), λ _. calms calm);
+        kept = kept;
+      }
 
   -- so it is answered
-  pub does_nothing_as : (r : Result Bool AllocError) (a : Result Bool SendError) → a ≡ unsent r → IfOk r (IsDone e s before after) → DoesLine e s contents calls old new most before after a
-  does_nothing_as r a is done = subst (DoesLine e s contents calls old new most before after) (sym is) (does_unsent r done)
+  pub does_nothing_as : (r : Result Bool AllocError) (a : Result Bool SendError) → a ≡ unsent r → Obeys form i j r → DoesLine form i j contents calls old new most a
+  does_nothing_as r a is done = subst (DoesLine form i j contents calls old new most) (sym is) (does_unsent r done)
 
 -- where nothing is sent it is the same
-pub does_as : {W : Type 0} (contents : W → Option (List ℕ)) (calls : W → Calls) (writer : W) (most : ℕ) (e : Effect) (s : SessionState) (before after : List ℕ)
-    → (r : Result Bool AllocError) (a : Result Bool SendError) → a ≡ unsent r → IfOk r (IsDone e s before after) → DoesLine e s contents calls writer writer most before after a
-does_as contents calls writer most e s before after r a is done = does_nothing_as contents calls writer writer most e s before after refl (λ calm. calm) (λ _. refl) r a is done
+pub does_as : {A W : Type 0} {form : Form} {i j : Interpreter A} {contents : W → Option (List ℕ)} {calls : W → Calls} {writer : W} {most : ℕ}
+    → (r : Result Bool AllocError) (a : Result Bool SendError) → a ≡ unsent r → Obeys form i j r → DoesLine form i j contents calls writer writer most a
+does_as {A} {W} {form} {i} {j} {contents} {calls} {writer} {most} r a is done = does_nothing_as form i j contents calls writer writer most refl (λ calm. calm) (λ _. refl) r a is done
 
 -- memory was refused, and nothing is sent
-pub does_memory : {W : Type 0} (contents : W → Option (List ℕ)) (calls : W → Calls) (writer : W) (most : ℕ) (e : Effect) (s : SessionState) (before after : List ℕ) (r : Result Bool SendError)
-    → IsErrAnd r (λ x. x ≡ send.Memory) → DoesLine e s contents calls writer writer most before after r
-does_memory contents calls writer most e s before after (Ok refused) is = absurd is
-does_memory contents calls writer most e s before after (Err error) is = record {
-  does = TakesFront-none (contents writer) (before ++ e.printed);
+pub does_memory : {A W : Type 0} {form : Form} {i j : Interpreter A} {contents : W → Option (List ℕ)} {calls : W → Calls} {writer : W} {most : ℕ} (r : Result Bool SendError)
+    → IsErrAnd r (λ x. x ≡ send.Memory) → DoesLine form i j contents calls writer writer most r
+does_memory {A} {W} {form} {i} {j} {contents} {calls} {writer} (Ok refused) is = absurd is
+does_memory {A} {W} {form} {i} {j} {contents} {calls} {writer} (Err error) is = record {
+  does = TakesFront-none (contents writer) (i.output.items ++ (form_effect i form).printed);
   writes = calm_memory (calls writer) (calls writer) (Err error) (λ calm. calm) is;
   kept = λ _. refl;
 }

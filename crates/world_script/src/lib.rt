@@ -4,6 +4,7 @@
 #![tactic(auto)]
 
 mod errors;
+mod interpreters;
 mod lines;
 mod runners;
 mod runs;

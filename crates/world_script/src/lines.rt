@@ -1,15 +1,11 @@
 //! Running one line, and counting it.
-ghost use Rattle.std.specs.Prelude.{◌≡◌, ◌+◌, ◌<◌, ◌≤◌, ◌++◌, ℕ, List, None, OnErr, OnOk};
-ghost use Rattle.std.specs.Io.KnownBytes.{Appends};
-ghost use Rattle.ecs_observe.specs.Standing.{session_of};
+ghost use Rattle.std.specs.Prelude.{◌≡◌, ◌≤◌, ◌++◌, None, OnErr, OnOk};
 ghost use Rattle.script_streams.specs.Lines.{most_bytes};
 ghost use Rattle.script_streams.specs.Streams.{TakesFront};
 ghost use Rattle.world_query.specs.Sent.{FailsAtWrite, most_usize};
-ghost use Rattle.world_script.specs.Run.{line_effect};
-ghost use Rattle.world_script.specs.Running.{RunsLine};
+ghost use Rattle.world_script.specs.Running.{RunsNext, next_effect};
 
-use crate::sessions::run_line;
-use ecs_observe::Session;
+use crate::interpreters::Interpreter;
 use script_streams::Sink;
 use std::alloc::Allocator;
 use world_query::SendError;
@@ -23,36 +19,37 @@ pub struct Summary {
     pub refused: usize,
 }
 
-/// Runs a line under the next number, adds what it prints to the output, and counts it. What stands in `values` is
-/// lost.
-pub(crate) fn run_next<A: Allocator + Copy, W: Sink>(
-    alloc: A,
-    session: &mut Session<A>,
-    summary: &mut Summary,
-    line: &[u8],
-    values: &mut Vec<i128, A>,
-    output: &mut Vec<u8, A>,
-    most: usize,
-    writer: &mut W,
-) -> Result<(), SendError>
-    requires none_wait { session.old.waiting ≡ None }
-    requires room { summary.old.lines ≤ most_bytes }
-    requires few { summary.old.refused ≤ summary.old.lines }
-    ensures ran { OnOk result ((sent : List ℕ) × Appends (W.contents writer.old) (W.contents writer.new) sent
-        × RunsLine (line_effect (session_of session.old) (summary.old.lines + 1) line.now)
-        (session_of session.new) output.old.items
-        (sent ++ output.new.items) summary.old summary.new) }
-    ensures none_wait { OnOk result (session.new.waiting ≡ None) }
-    ensures stops { OnErr result (TakesFront (W.contents writer.old) (W.contents writer.new)
-        (output.old.items ++ (line_effect (session_of session.old) (summary.old.lines + 1) line.now).printed)) }
-    ensures writes { FailsAtWrite (W.calls writer.old) result (W.calls writer.new) }
-    ensures kept { most ≡ most_usize → writer.new ≡ writer.old }
-{
-    let number = summary.lines + 1;
-    let is_refused = run_line(alloc, session, number, line, values, output, most, writer)?;
-    summary.lines = number;
-    if is_refused {
-        summary.refused += 1;
+impl<A: Allocator + Copy> Interpreter<A> {
+    /// Runs a line under the next number, adds what it prints to the output, and counts it. Of the output the rows of a
+    /// query may be sent before, where more than `most` bytes of it have come together.
+    pub(crate) fn run_next<W: Sink>(
+        &mut self,
+        line: &[u8],
+        most: usize,
+        writer: &mut W,
+    ) -> Result<(), SendError>
+        requires none_wait { self.old.session.waiting ≡ None }
+        requires room { self.old.summary.lines ≤ most_bytes }
+        requires few { self.old.summary.refused ≤ self.old.summary.lines }
+        ensures ran { OnOk result (RunsNext line.now self.old self.new (W.contents writer.old)
+            (W.contents writer.new)) }
+        ensures none_wait { OnOk result (self.new.session.waiting ≡ None) }
+        ensures stops { OnErr result (TakesFront (W.contents writer.old) (W.contents writer.new)
+            (self.old.output.items ++ (next_effect self.old line.now).printed)) }
+        ensures writes { FailsAtWrite (W.calls writer.old) result (W.calls writer.new) }
+        ensures kept { most ≡ most_usize → writer.new ≡ writer.old }
+    {
+        let before = self.summary;
+        let number = before.lines + 1;
+        self.number = number;
+        let is_refused = self.run_line(line, most, writer)?;
+        self.summary = Summary {
+            lines: number,
+            refused: before.refused,
+        };
+        if is_refused {
+            self.summary.refused += 1;
+        }
+        Ok(())
     }
-    Ok(())
 }

@@ -2,75 +2,55 @@
 ghost use Rattle.std.specs.Prelude.{◌≡◌, ◌+◌, ◌≤◌, ◌⊎◌, List, None, Option, ℕ, [], Err, IfErr, IfOk, OnErr, OnOk};
 ghost use Rattle.std.specs.Prelude.{length};
 ghost use Rattle.std.specs.Io.KnownBytes.{Appends, IsAtEnd};
-ghost use Rattle.ecs_model.specs.stored.Session.{first_session};
-ghost use Rattle.ecs_observe.specs.Standing.{session_of};
 ghost use Rattle.script_streams.specs.Lines.{most_bytes};
 ghost use Rattle.script_streams.specs.Streams.{TakesFront};
 ghost use Rattle.world_query.specs.Sent.{FailsAtWrite};
-ghost use Rattle.world_script.specs.Running.{HasEnded, IsRunning};
+ghost use Rattle.world_script.specs.Running.{HasEnded, IsFirst, IsUnderWay};
 ghost use Rattle.world_script.specs.Whole.{FaultyAt, FitsScript, IsCount, IsOutput, WroteFront, WroteFull, WroteToEnd};
 ghost use Rattle.world_script.specs.Whole.{WroteWhole};
 
 use crate::errors::RunError;
-use crate::lines::{Summary, run_next};
-use ecs_observe::Session;
+use crate::interpreters::Interpreter;
+use crate::lines::Summary;
 use script_streams::{Lines, Sink, Source, write_all};
-use std::alloc::{AllocError, Allocator};
+use std::alloc::Allocator;
 use std::hash::RandomState;
 use world_query::SendError;
 
 /// Output that is longer is written before the next line is run.
 const MOST_OUTPUT: usize = 65_536;
 
-/// A script as it runs: the session, the lines that come, and the output that isn't written yet.
+/// A script as it runs: the lines that come, and what runs them.
 #[derive(Drop)]
 pub(crate) struct Runner<A: Allocator> {
-    session: Session<A>,
     lines: Lines<A>,
-    summary: Summary,
-    /// The values of a line.
-    values: Vec<i128, A>,
-    output: Vec<u8, A>,
+    interpreter: Interpreter<A>,
 }
 
 impl<A: Allocator + Copy> Runner<A> {
     /// A new session, and no line yet.
     pub(crate) fn new(alloc: A, random: RandomState) -> Result<Self, RunError>
         ensures lines { IfOk result (λ r. r.lines ≡ record { line = []; front = []; unread = []; read = 0 }) }
-        ensures session { IfOk result (λ r. session_of r.session ≡ first_session) }
-        ensures none_wait { IfOk result (λ r. (r.session).waiting ≡ None) }
-        ensures summary { IfOk result (λ r. r.summary ≡ record { lines = 0; refused = 0 }) }
-        ensures output { IfOk result (λ r. (r.output).items ≡ []) }
+        ensures first { IfOk result (λ r. IsFirst r.interpreter) }
         ensures memory { IfErr result (λ error. error ≡ RunError.Memory) }
     {
         let lines = Lines::new(alloc)?;
-        let session = Session::new(alloc, random)?;
-        Ok(Runner {
-            session,
-            lines,
-            summary: Summary {
-                lines: 0,
-                refused: 0,
-            },
-            values: Vec::new(alloc),
-            output: Vec::new(alloc),
-        })
+        let interpreter = Interpreter::new(alloc, random)?;
+        Ok(Runner { lines, interpreter })
     }
 
     /// Runs a script to its end. Output is written before each read, and where much of it has come together.
     pub(crate) fn run_script<R: Source, W: Sink>(
         &mut self,
-        alloc: A,
         reader: &mut R,
         writer: &mut W,
     ) -> Result<(), RunError>
-        requires none_wait { self.old.session.waiting ≡ None }
-        requires running { IsRunning (R.remaining reader.old) (R.remaining reader.old) (W.contents writer.old)
-            (W.contents writer.old)
-            self.old.lines (session_of self.old.session) self.old.summary self.old.output.items }
+        requires none_wait { self.old.interpreter.session.waiting ≡ None }
+        requires running { IsUnderWay (R.remaining reader.old) (R.remaining reader.old) (W.contents writer.old)
+            (W.contents writer.old) self.old }
         ensures output { OnOk result (IsOutput (R.remaining reader.old) (W.contents writer.old)
             (W.contents writer.new)) }
-        ensures count { OnOk result (IsCount (R.remaining reader.old) self.new.summary) }
+        ensures count { OnOk result (IsCount (R.remaining reader.old) self.new.interpreter.summary) }
         ensures fits { OnOk result (FitsScript (R.remaining reader.old)) }
         ensures read_whole { OnOk result (IsAtEnd (R.remaining reader.new)) }
 
@@ -94,86 +74,64 @@ impl<A: Allocator + Copy> Runner<A> {
     {
         let mut has_more = true;
         while has_more {
-            self.run_ended(alloc, writer)?;
+            self.run_ended(writer)?;
             has_more = self.lines.fill(reader)?;
         }
-        self.run_last(alloc, writer)?;
-        write_out(&mut self.output, writer)
+        self.run_last(writer)?;
+        write_out(&mut self.interpreter.output, writer)
     }
 
     /// Runs the lines whose ends have come, and writes what they print.
-    fn run_ended<W: Sink>(&mut self, alloc: A, writer: &mut W) -> Result<(), RunError>
-        requires none_wait { self.old.session.waiting ≡ None }
-        requires room { self.old.summary.lines + length self.old.lines.unread ≤ most_bytes }
-        requires few { self.old.summary.refused ≤ self.old.summary.lines }
-        ensures ran { (told left old : Option (List ℕ))
-            → IsRunning told left old (W.contents writer.old) self.old.lines
-            (session_of self.old.session) self.old.summary self.old.output.items
-            → OnOk result (IsRunning told left old (W.contents writer.new)
-            self.new.lines (session_of self.new.session) self.new.summary self.new.output.items) }
-        ensures none_wait { OnOk result (self.new.session.waiting ≡ None) }
+    fn run_ended<W: Sink>(&mut self, writer: &mut W) -> Result<(), RunError>
+        requires none_wait { self.old.interpreter.session.waiting ≡ None }
+        requires room { self.old.interpreter.summary.lines + length self.old.lines.unread ≤ most_bytes }
+        requires few { self.old.interpreter.summary.refused ≤ self.old.interpreter.summary.lines }
+        ensures ran { (told left old : Option (List ℕ)) → IsUnderWay told left old (W.contents writer.old) self.old
+            → OnOk result (IsUnderWay told left old (W.contents writer.new) self.new) }
+        ensures none_wait { OnOk result (self.new.interpreter.session.waiting ≡ None) }
         ensures taken { OnOk result (self.new.lines.unread ≡ []) }
-        ensures written { OnOk result (self.new.output.items ≡ []) }
+        ensures written { OnOk result (self.new.interpreter.output.items ≡ []) }
         ensures read { self.new.lines.read ≡ self.old.lines.read }
         ensures fault { IfErr result (λ error. (error ≡ RunError.Memory) ⊎ (error ≡ RunError.Write)) }
-        ensures front { (told left old : Option (List ℕ))
-            → IsRunning told left old (W.contents writer.old) self.old.lines
-            (session_of self.old.session) self.old.summary self.old.output.items
+        ensures front { (told left old : Option (List ℕ)) → IsUnderWay told left old (W.contents writer.old) self.old
             → OnErr result (WroteFront told left old (W.contents writer.new)) }
         ensures writes { FaultyAt RunError.Write (W.calls writer.old) result (W.calls writer.new) }
     {
         while self.lines.take_line()? {
-            run_next(
-                alloc,
-                &mut self.session,
-                &mut self.summary,
-                self.lines.line(),
-                &mut self.values,
-                &mut self.output,
-                MOST_OUTPUT,
-                writer,
-            )?;
-            if self.output.len() > MOST_OUTPUT {
-                write_out(&mut self.output, writer)?;
+            self.interpreter
+                .run_next(self.lines.line(), MOST_OUTPUT, writer)?;
+            if self.interpreter.output.len() > MOST_OUTPUT {
+                write_out(&mut self.interpreter.output, writer)?;
             }
         }
-        write_out(&mut self.output, writer)
+        write_out(&mut self.interpreter.output, writer)
     }
 
     /// Runs the line after the last line feed, if it isn't empty. None of its output is written: where memory is
     /// refused, it is no line yet.
-    fn run_last<W: Sink>(&mut self, alloc: A, writer: &mut W) -> Result<(), SendError>
-        requires none_wait { self.old.session.waiting ≡ None }
-        requires room { self.old.summary.lines ≤ most_bytes }
-        requires few { self.old.summary.refused ≤ self.old.summary.lines }
+    fn run_last<W: Sink>(&mut self, writer: &mut W) -> Result<(), SendError>
+        requires none_wait { self.old.interpreter.session.waiting ≡ None }
+        requires room { self.old.interpreter.summary.lines ≤ most_bytes }
+        requires few { self.old.interpreter.summary.refused ≤ self.old.interpreter.summary.lines }
         requires taken { self.old.lines.unread ≡ [] }
-        ensures ended { (told left old : Option (List ℕ))
-            → IsRunning told left old (W.contents writer.old) self.old.lines
-            (session_of self.old.session) self.old.summary self.old.output.items
-            → OnOk result (HasEnded told left old (W.contents writer.new) self.new.summary self.new.output.items) }
+        ensures ended { (told left old : Option (List ℕ)) → IsUnderWay told left old (W.contents writer.old) self.old
+            → OnOk result (HasEnded told left old (W.contents writer.new)
+            self.new.interpreter.summary self.new.interpreter.output.items) }
         ensures kept { writer.new ≡ writer.old }
         ensures writes { FailsAtWrite (W.calls writer.old) result (W.calls writer.new) }
     {
         if self.lines.front().is_empty() {
             return Ok(());
         }
-        run_next(
-            alloc,
-            &mut self.session,
-            &mut self.summary,
-            self.lines.front(),
-            &mut self.values,
-            &mut self.output,
-            usize::MAX,
-            writer,
-        )
+        self.interpreter
+            .run_next(self.lines.front(), usize::MAX, writer)
     }
 
     /// What was run so far.
     pub(crate) fn summary(&self) -> Summary
-        ensures { result ≡ self.now.summary }
+        ensures { result ≡ self.now.interpreter.summary }
     {
-        self.summary
+        self.interpreter.summary
     }
 }
 

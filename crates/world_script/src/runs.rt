@@ -46,7 +46,7 @@ pub fn run<A: Allocator + Copy, R: Source, W: Sink>(
     ensures writes { FaultyAt RunError.Write (W.calls writer.old) result (W.calls writer.new) }
 {
     let mut runner = Runner::new(alloc, random)?;
-    runner.run_script(alloc, reader, writer)?;
+    runner.run_script(reader, writer)?;
     Ok(runner.summary())
 }
 
@@ -76,7 +76,7 @@ pub fn run_without_cleanup<A: Allocator + Copy, R: Source, W: Sink>(
     ensures writes { FaultyAt RunError.Write (W.calls writer.old) result (W.calls writer.new) }
 {
     let mut runner = Runner::new(alloc, random)?;
-    let done = runner.run_script(alloc, reader, writer);
+    let done = runner.run_script(reader, writer);
     let summary = runner.summary();
     forget(runner);
     match done {

@@ -8,6 +8,7 @@ ghost use Rattle.ecs_model.specs.stored.Watches.{event_text};
 ghost use Rattle.ecs_observe.specs.Standing.{session_of};
 ghost use Rattle.world_script.specs.Told.{TellsAnswer, TellsBorn, TellsError, TellsRefusal};
 
+use crate::interpreters::Interpreter;
 use ecs_id::EntityId;
 use ecs_model::faults::{Refusal, SchemaFault, SessionRefusal};
 use ecs_observe::{Session, SessionError};
@@ -76,43 +77,41 @@ pub(crate) fn refuse_query<A: Allocator>(
     Ok(true)
 }
 
-/// Prints what a session answered to a command: the events that wait where it was accepted. After that none wait.
-pub(crate) fn tell_answer<A: Allocator + Copy>(
-    session: &mut Session<A>,
-    number: usize,
-    answer: Result<Option<EntityId>, SessionError>,
-    output: &mut Vec<u8, A>,
-) -> Result<bool, AllocError>
-    ensures { IfOk result (TellsAnswer answer number (session_of session.old)
-        (session_of session.new) output.old.items output.new.items) }
-{
-    if let Err(error) = answer {
-        return tell_error(number, error, output);
+impl<A: Allocator + Copy> Interpreter<A> {
+    /// Prints what the session answered to a command: the events that wait where it was accepted. After that none wait.
+    pub(crate) fn tell_answer(
+        &mut self,
+        answer: Result<Option<EntityId>, SessionError>,
+    ) -> Result<bool, AllocError>
+        ensures { IfOk result (TellsAnswer answer self.old.number (session_of self.old.session)
+            (session_of self.new.session) self.old.output.items self.new.output.items) }
+    {
+        if let Err(error) = answer {
+            return tell_error(self.number, error, &mut self.output);
+        }
+        tell_events(&mut self.session, &mut self.output)?;
+        Ok(false)
     }
-    tell_events(session, output)?;
-    Ok(false)
-}
 
-/// Prints what a session answered to `new`: the entity that it made, and then the events that wait. After that none
-/// wait.
-pub(crate) fn tell_born<A: Allocator + Copy>(
-    session: &mut Session<A>,
-    number: usize,
-    answer: Result<Option<EntityId>, SessionError>,
-    output: &mut Vec<u8, A>,
-) -> Result<bool, AllocError>
-    ensures { IfOk result (TellsBorn answer number (session_of session.old)
-        (session_of session.new) output.old.items output.new.items) }
-{
-    let born = match answer {
-        Ok(born) => born,
-        Err(error) => return tell_error(number, error, output),
-    };
-    if let Some(entity) = born {
-        write_handle_line(entity, output)?;
+    /// Prints what the session answered to `new`: the entity that it made, and then the events that wait. After that
+    /// none wait.
+    pub(crate) fn tell_born(
+        &mut self,
+        answer: Result<Option<EntityId>, SessionError>,
+    ) -> Result<bool, AllocError>
+        ensures { IfOk result (TellsBorn answer self.old.number (session_of self.old.session)
+            (session_of self.new.session) self.old.output.items self.new.output.items) }
+    {
+        let born = match answer {
+            Ok(born) => born,
+            Err(error) => return tell_error(self.number, error, &mut self.output),
+        };
+        if let Some(entity) = born {
+            write_handle_line(entity, &mut self.output)?;
+        }
+        tell_events(&mut self.session, &mut self.output)?;
+        Ok(false)
     }
-    tell_events(session, output)?;
-    Ok(false)
 }
 
 /// Prints why a session did not do what it was called for.

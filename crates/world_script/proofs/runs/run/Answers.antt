@@ -11,7 +11,10 @@ returns-in_err-runner-clause-memory g c = λ _. WroteFront-none _ _
 pub run_script-requires-clause-running : goal.run_script-requires-clause-running
 run_script-requires-clause-running g c =
     let new = c.in_ok-runner.ensures in
-    IsRunning-start _ _ c.in_ok-runner.runner.lines _ c.in_ok-runner.runner.summary _ new.lines new.session new.summary new.output
+    IsRunning-start _ _ c.in_ok-runner.runner.lines _ c.in_ok-runner.runner.interpreter.summary _ new.lines new.first.session new.first.summary new.first.output
+
+pub run_script-requires-clause-none_wait : goal.run_script-requires-clause-none_wait
+run_script-requires-clause-none_wait g c = c.in_ok-runner.ensures.first.none_wait
 
 pub returns-in_err-run_script-clause-read : goal.returns-in_err-run_script-clause-read
 returns-in_err-run_script-clause-read g c = λ is.

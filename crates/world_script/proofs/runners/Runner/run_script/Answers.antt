@@ -68,19 +68,19 @@ pub returns-clause-output : goal.returns-clause-output
 returns-clause-output g c =
     let end = c.loop-has_more.invariant.at_end c.loop-has_more-test.false in
     let ended = c.in_ok-run_last.ensures.ended _ _ _ c.loop-has_more.invariant.running in
-    on_ok_weaker c.write_out.result (λ wrote. IsOutput-ended _ _ _ _ _ c.run_last.new.self.summary _ end ended wrote) c.write_out.ensures.ok
+    on_ok_weaker c.write_out.result (λ wrote. IsOutput-ended _ _ _ _ _ c.run_last.new.self.interpreter.summary _ end ended wrote) c.write_out.ensures.ok
 
 pub returns-clause-count : goal.returns-clause-count
 returns-clause-count g c =
     let end = c.loop-has_more.invariant.at_end c.loop-has_more-test.false in
     let ended = c.in_ok-run_last.ensures.ended _ _ _ c.loop-has_more.invariant.running in
-    on_ok_weaker c.write_out.result (λ _. IsCount-ended _ _ _ _ c.run_last.new.self.summary _ end ended) c.write_out.ensures.ok
+    on_ok_weaker c.write_out.result (λ _. IsCount-ended _ _ _ _ c.run_last.new.self.interpreter.summary _ end ended) c.write_out.ensures.ok
 
 pub returns-clause-write : goal.returns-clause-write
 returns-clause-write g c = λ is.
     let end = c.loop-has_more.invariant.at_end c.loop-has_more-test.false in
     let ended = c.in_ok-run_last.ensures.ended _ _ _ c.loop-has_more.invariant.running in
-    inr (WroteToEnd-at _ _ _ _ _ c.run_last.new.self.summary _ end ended (on_err_at _ _ _ is c.write_out.ensures.front))
+    inr (WroteToEnd-at _ _ _ _ _ c.run_last.new.self.interpreter.summary _ end ended (on_err_at _ _ _ is c.write_out.ensures.front))
 
 pub returns-clause-writes : goal.returns-clause-writes
 returns-clause-writes g c = λ calm. c.write_out.ensures.writes (calm_still _ _ _ c.in_ok-run_last.ensures.writes (c.loop-has_more.invariant.writes calm))

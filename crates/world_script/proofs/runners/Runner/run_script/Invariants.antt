@@ -1,18 +1,16 @@
 use Rattle.std.proofs.Common.{◌≡◌, ◌+◌, ◌-◌, false, [], None, cond}
 use Rattle.std.specs.Io.KnownBytes.{IsAtEnd}
-use Rattle.ecs_observe.specs.Standing.{session_of}
 use Rattle.script_streams.specs.Lines.{most_bytes}
 use Rattle.script_streams.specs.Streams.{IsCalm}
-use Rattle.world_script.specs.Running.{IsRunning}
+use Rattle.world_script.specs.Running.{IsUnderWay}
 use Rattle.world_script.proofs.runners.Runner.run_script.Given as goal
 
 abbrev pub invariant-loop-has_more : goal.invariant-loop-has_more
 invariant-loop-has_more g l = record {
-  running : IsRunning (g.R.Source.remaining l.initial.reader) (g.R.Source.remaining l.reader) (g.W.Sink.contents l.initial.writer) (g.W.Sink.contents l.writer)
-      l.self.lines (session_of l.self.session) l.self.summary l.self.output.items;
-  none_wait : l.self.session.waiting ≡ None;
+  running : IsUnderWay (g.R.Source.remaining l.initial.reader) (g.R.Source.remaining l.reader) (g.W.Sink.contents l.initial.writer) (g.W.Sink.contents l.writer) l.self;
+  none_wait : l.self.interpreter.session.waiting ≡ None;
   taken : l.has_more ≡ false → l.self.lines.unread ≡ [];
-  written : l.has_more ≡ false → l.self.output.items ≡ [];
+  written : l.has_more ≡ false → l.self.interpreter.output.items ≡ [];
   at_end : l.has_more ≡ false → IsAtEnd (g.R.Source.remaining l.reader);
   reads : IsCalm (g.R.Source.calls l.initial.reader) → IsCalm (g.R.Source.calls l.reader);
   writes : IsCalm (g.W.Sink.calls l.initial.writer) → IsCalm (g.W.Sink.calls l.writer);

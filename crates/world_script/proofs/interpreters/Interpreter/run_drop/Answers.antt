@@ -1,0 +1,7 @@
+use Rattle.world_script.proofs.Orders.{IfOk-drop}
+use Rattle.world_script.proofs.interpreters.Interpreter.run_drop.Goals as goal
+
+pub returns : goal.returns
+returns g c =
+    IfOk-drop c.tell_answer.result c.args.self.now.session c.drop_stored-answer.new.self c.tell_answer.new.self.session c.args.self.now.number c.args.self.now.output.items c.tell_answer.new.self.output.items
+    c.drop_stored-answer.result c.args.name.now c.drop_stored-answer.ensures.answers c.tell_answer.ensures

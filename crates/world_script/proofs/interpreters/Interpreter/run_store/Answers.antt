@@ -1,0 +1,7 @@
+use Rattle.world_script.proofs.Orders.{IfOk-store}
+use Rattle.world_script.proofs.interpreters.Interpreter.run_store.Goals as goal
+
+pub returns : goal.returns
+returns g c =
+    IfOk-store c.tell_answer.result c.args.self.now.session c.store-answer.new.self c.tell_answer.new.self.session c.args.self.now.number c.args.self.now.output.items c.tell_answer.new.self.output.items
+    c.store-answer.result c.args.kind c.args.name.now c.args.text.now c.store-answer.ensures.answers c.tell_answer.ensures
