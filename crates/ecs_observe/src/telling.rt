@@ -56,11 +56,11 @@ impl<A: Allocator + Copy> Session<A> {
         Ok(told)
     }
 
-    /// Writes the lines of the events that wait behind what is there, in their order, as `write_event` does one. After
+    /// Writes the lines of the events that wait after what is there, in their order, as `write_event` does one. After
     /// that none wait.
     ///
     /// The room for few events stays with the session, so that the next command needs none. Fails where memory is
-    /// refused, and then a front of the lines may be written, or the events still wait.
+    /// refused, and then a prefix of the lines may be written, or the events still wait.
     // (out of line, so that a command after which nothing waits pays nothing for it)
     #[inline(never)]
     pub fn write_events(&mut self, output: &mut Vec<u8, A>) -> Result<(), AllocError>
@@ -154,7 +154,7 @@ fn write_all<A: Allocator>(events: &[Event<A>], output: &mut Vec<u8, A>) -> Resu
     Ok(())
 }
 
-/// Puts what all stored queries are told behind other events, by those that the command leads to. Gives the moves of
+/// Puts what all stored queries report after other events, by those that the command leads to. Gives the moves of
 /// their rows, each with the place of its query, unless they stay. Counts the whole rows taken.
 #[inline(always)]
 fn tell_led<A: Allocator + Copy>(
@@ -265,7 +265,7 @@ fn is_told_locally_at<A: Allocator>(stored: &StoredQueries<A>, places: &[u64]) -
         .any(|place| stored.is_told_locally_at(*place as usize))
 }
 
-/// Puts what all stored queries are told behind other events, by those at these places: no other is told anything.
+/// Puts what all stored queries report after other events, by those at these places: no other reports anything.
 /// Gives the moves of their rows, each with the place of its query, unless they stay. Counts the whole rows taken.
 fn tell_all<A: Allocator + Copy>(
     alloc: A,

@@ -1,4 +1,4 @@
-//! What one stored query is told of a command.
+//! What one stored query reports of a command.
 
 ghost use Rattle.std.specs.Prelude.{◌≡◌, ◌+◌, ◌≤◌, ◌++◌, IfOk, OnErr, OnOk, false, min, true};
 ghost use Rattle.std.specs.String.{string_bytes};
@@ -18,10 +18,10 @@ use query_local::{Touched, local_told};
 use std::alloc::{AllocError, Allocator};
 use watch_events::{Audience, Event, Moves, may_tell, tell, tell_moves};
 
-/// Puts what the stored query at a place is told behind other events, and behind those of others the moves of its rows,
+/// Puts what the stored query at a place reports after other events, and after those of others the moves of its rows,
 /// unless they stay. Counts the whole rows taken.
 ///
-/// Fails where memory is refused, and then the first of these events may stand behind the others.
+/// Fails where memory is refused, and then the first of these events may stand after the others.
 pub fn tell_one<A: Allocator + Copy>(
     alloc: A,
     world: &World<A>,
@@ -78,10 +78,10 @@ pub fn tell_one<A: Allocator + Copy>(
     Ok(())
 }
 
-/// Puts what a stored query is told behind other events, if it isn't a monitor whose query isn't local. Most observers
+/// Puts what a stored query reports after other events, if it isn't a monitor whose query isn't local. Most observers
 /// are told nothing, which is asked first.
 ///
-/// Fails where memory is refused, and then the first of these events may stand behind the others.
+/// Fails where memory is refused, and then the first of these events may stand after the others.
 fn tell_uncompared<A: Allocator + Copy>(
     alloc: A,
     world: &World<A>,
@@ -109,10 +109,10 @@ fn tell_uncompared<A: Allocator + Copy>(
     tell_observer(alloc, world, changes, name, query, events)
 }
 
-/// Puts what a monitor whose query isn't local is told behind other events, and answers whether the moves of its rows
+/// Puts what a monitor whose query isn't local reports after other events, and answers whether the moves of its rows
 /// are put in the place of none: the command concerns its query. Counts the whole rows taken.
 ///
-/// Fails where memory is refused, and then the first of these events may stand behind the others.
+/// Fails where memory is refused, and then the first of these events may stand after the others.
 fn tell_compared<A: Allocator + Copy>(
     alloc: A,
     world: &World<A>,
@@ -154,7 +154,7 @@ fn tell_compared<A: Allocator + Copy>(
     Ok(true)
 }
 
-/// Puts what an event observer is told behind other events.
+/// Puts what an event observer reports after other events.
 fn tell_observer<A: Allocator + Copy>(
     alloc: A,
     world: &World<A>,
@@ -178,7 +178,7 @@ fn tell_observer<A: Allocator + Copy>(
     tell(alloc, world, changes, audience, events)
 }
 
-/// Puts what a monitor of a local query is told behind other events, by the entities that the command touched.
+/// Puts what a monitor of a local query reports after other events, by the entities that the command touched.
 fn tell_locally<A: Allocator + Copy>(
     alloc: A,
     world: &World<A>,

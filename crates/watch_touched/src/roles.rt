@@ -44,8 +44,8 @@ struct StepBack<'a> {
 }
 
 impl<A: Allocator + Copy, B: Allocator> Walk<'_, '_, A, B> {
-    /// Adds all who may have moved by a fact of somebody who may stand for another variable than `$this`. False, where
-    /// more are looked at than few.
+    /// Adds all that may have moved by a fact of an entity that may stand for another variable than `$this`. False,
+    /// where more are looked at than few.
     ///
     /// A fact is begun with as each variable that is asked for it and whose needs its holder has, or had. From there it
     /// goes back alone, to variables before, so each walk ends.
@@ -66,7 +66,8 @@ impl<A: Allocator + Copy, B: Allocator> Walk<'_, '_, A, B> {
         self.push_from_facts(went, &mut free, moving)
     }
 
-    /// Adds those who may be `$this` behind the entities of these facts. False, where more are looked at than so many.
+    /// Adds those that may be `$this` and lead to the entities of these facts. False, where more are looked at than so
+    /// many.
     #[inline(always)]
     fn push_from_facts(
         &self,
@@ -86,8 +87,8 @@ impl<A: Allocator + Copy, B: Allocator> Walk<'_, '_, A, B> {
         Ok(true)
     }
 
-    /// Adds those who may be `$this` behind the entity of a fact, as each variable for which it counts. False, where
-    /// more are looked at than so many.
+    /// Adds those that may be `$this` and lead to the entity of a fact, as each variable for which it counts. False,
+    /// where more are looked at than so many.
     // (out of line, so that where no fact came or went nothing is paid for it)
     #[inline(never)]
     fn push_from_fact(
@@ -118,8 +119,8 @@ impl<A: Allocator + Copy, B: Allocator> Walk<'_, '_, A, B> {
         Ok(true)
     }
 
-    /// Adds those who may be `$this` behind an entity as that of a variable. False, where more are looked at than so
-    /// many.
+    /// Adds those that may be `$this` and lead to an entity as that of a variable. False, where more are looked at than
+    /// so many.
     #[cycle(behind)]
     fn push_behind(
         &self,
@@ -161,9 +162,9 @@ impl<A: Allocator + Copy, B: Allocator> Walk<'_, '_, A, B> {
         found.push(self.alloc, entity)
     }
 
-    /// Adds those who may be `$this` behind those from whom a step may lead to an entity: behind who holds a pair with
-    /// it, or behind the targets of such pairs that it holds, or that went from it. False, where more are looked at than
-    /// so many.
+    /// Adds those that may be `$this` and lead to those from which a step may lead to an entity: holders of a pair with
+    /// it, or the targets of such pairs that it holds, or that went from it. False, where more are looked at than so
+    /// many.
     #[cycle(behind)]
     fn push_by_step(
         &self,
@@ -188,8 +189,8 @@ impl<A: Allocator + Copy, B: Allocator> Walk<'_, '_, A, B> {
         self.push_behind_gone(back, free, moving)
     }
 
-    /// Adds those who may be `$this` behind who holds a pair with an entity by which a step may lead from them to it.
-    /// False, where more are looked at than so many.
+    /// Adds those that may be `$this` and lead to a holder of a pair with an entity by which a step may lead from them
+    /// to it. False, where more are looked at than so many.
     #[cycle(behind)]
     fn push_behind_holders(
         &self,
@@ -215,8 +216,8 @@ impl<A: Allocator + Copy, B: Allocator> Walk<'_, '_, A, B> {
         self.push_behind_all(variable, entities, free, moving)
     }
 
-    /// Adds those who may be `$this` behind the targets of those of an entity's ids that are pairs by which a step may
-    /// lead from their target to it. False, where more are looked at than so many.
+    /// Adds those that may be `$this` and lead to the targets of those of an entity's ids that are pairs by which a
+    /// step may lead from their target to it. False, where more are looked at than so many.
     #[cycle(behind)]
     fn push_behind_targets(
         &self,
@@ -238,8 +239,8 @@ impl<A: Allocator + Copy, B: Allocator> Walk<'_, '_, A, B> {
         Ok(true)
     }
 
-    /// Adds those who may be `$this` behind the targets of those pairs that went from an entity. False, where more are
-    /// looked at than so many.
+    /// Adds those that may be `$this` and lead to the targets of those pairs that went from an entity. False, where
+    /// more are looked at than so many.
     #[cycle(behind)]
     fn push_behind_gone(
         &self,
@@ -266,8 +267,8 @@ impl<A: Allocator + Copy, B: Allocator> Walk<'_, '_, A, B> {
         Ok(true)
     }
 
-    /// Adds those who may be `$this` behind the target of a pair, if a step may lead from that to the pair's holder.
-    /// False, where more are looked at than so many.
+    /// Adds those that may be `$this` and lead to the target of a pair, if a step may lead from that to the pair's
+    /// holder. False, where more are looked at than so many.
     #[cycle(behind)]
     fn push_behind_target(
         &self,
@@ -293,8 +294,8 @@ impl<A: Allocator + Copy, B: Allocator> Walk<'_, '_, A, B> {
         self.push_behind(step.from(), target, free, moving)
     }
 
-    /// Adds those who may be `$this` behind each of these entities, as those of a variable. False, where more are looked
-    /// at than so many.
+    /// Adds those that may be `$this` and lead to each of these entities, as those of a variable. False, where more are
+    /// looked at than so many.
     #[cycle(behind)]
     fn push_behind_all(
         &self,

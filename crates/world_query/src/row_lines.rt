@@ -21,7 +21,7 @@ use plan_fields::{Fields, ShownFact};
 use std::alloc::{AllocError, Allocator};
 
 /// What is kept while the rows of a query are printed: the text of an entity for each place of a row, which are its
-/// columns, one for each visible variable, and behind them its fields; and a label for each field.
+/// columns, one for each visible variable, and after them its fields; and a label for each field.
 ///
 /// A place shows the text of its own, or one that stands before it. Only its own is changed for it, so none that a row
 /// has shown is lost before the row ends, and each entity of a row is looked up at most once.
@@ -95,7 +95,7 @@ fn write_bindings<A: Allocator, B: Allocator>(
     Ok(())
 }
 
-/// Writes the current choice of fields, behind so many columns, and the end of the line.
+/// Writes the current choice of fields, after so many columns, and the end of the line.
 fn write_all_fields<'w, A: Allocator, B: Allocator>(
     world: &'w World<A>,
     fields: &Fields<B>,
@@ -129,7 +129,7 @@ fn write_all_fields<'w, A: Allocator, B: Allocator>(
     Ok(())
 }
 
-/// Writes a binding behind its start.
+/// Writes a binding after its start.
 fn write_binding<A: Allocator, B: Allocator>(
     world: &World<A>,
     start: &PaddedText<B>,

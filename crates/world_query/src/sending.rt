@@ -59,7 +59,7 @@ impl Sink for Nowhere {
 
 /// Sends what a list holds to a writer where that is more than so many bytes. Then it holds nothing.
 ///
-/// Fails where a write fails, and then a front of it may be sent; the list stays as it was.
+/// Fails where a write fails, and then a prefix of it may be sent; the list stays as it was.
 pub fn send_list<A: Allocator, W: Sink>(
     most: usize,
     writer: &mut W,

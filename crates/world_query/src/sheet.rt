@@ -1,4 +1,4 @@
-//! A sheet: short texts are put down behind one another without a look for memory at each.
+//! A sheet: short texts are put down one after another without a look for memory at each.
 
 ghost use Rattle.std.specs.Prelude.{◌≡◌, ◌+◌, ◌-◌, ◌<◌, ◌≤◌, ◌++◌, [], OnErr, OnOk, IfOk, drop, false, length};
 ghost use Rattle.std.specs.Prelude.{replicate, take, true};
@@ -8,7 +8,7 @@ use std::alloc::{AllocError, Allocator};
 use std::marker::Model;
 use std::mem;
 
-/// A text of at most so many bytes is put down in one piece, together with what stands behind it.
+/// A text of at most so many bytes is put down in one piece, together with what stands after it.
 pub(crate) const CHUNK: usize = 32;
 
 /// Two chunks take so many bytes at most.
@@ -17,7 +17,7 @@ const PAIR: usize = CHUNK + CHUNK;
 /// The room that is made where a sheet has none.
 const MORE_ROOM: usize = 1024;
 
-/// Texts behind one another: the bytes before `end`. What stands behind these is room, and no part of what a sheet is
+/// Texts one after another: the bytes before `end`. What stands after these is room, and no part of what a sheet is
 /// seen as.
 #[derive(Drop)]
 pub(crate) struct Sheet<A: Allocator> {
@@ -48,7 +48,7 @@ impl<A: Allocator + Copy> Sheet<A> {
 }
 
 impl<A: Allocator> Sheet<A> {
-    /// The texts alone: the room behind them is cut off.
+    /// The texts alone: the room after them is cut off.
     pub(crate) fn into_bytes(self) -> Vec<u8, A>
         ensures { result.items ≡ self }
     {
@@ -79,7 +79,7 @@ impl<A: Allocator> Sheet<A> {
         self.end = 0;
     }
 
-    /// Puts down a text of a length that is known before the program runs. So it needs no room behind it.
+    /// Puts down a text of a length that is known before the program runs. So it needs no room after it.
     #[inline(always)]
     pub(crate) fn put_text<const N: usize>(&mut self, text: &[u8; N]) -> Result<(), AllocError>
         ensures text { OnOk result (self.new ≡ self.old ++ text.now) }
@@ -109,7 +109,7 @@ impl<A: Allocator> Sheet<A> {
         self.put_long(text, count)
     }
 
-    /// Puts down the first bytes of a text, and behind them the first of another, which has room behind it. It looks
+    /// Puts down the first bytes of a text, and after them the first of another, which has room after it. It looks
     /// for memory once.
     #[inline(always)]
     pub(crate) fn put_pair(
@@ -159,7 +159,7 @@ fn is_short(text: &[u8], count: usize) -> bool
     count <= CHUNK && CHUNK <= text.len()
 }
 
-/// Whether so many bytes stand behind a place of a list that is so long.
+/// Whether so many bytes stand after a place of a list that is so long.
 #[inline(always)]
 fn has_room(place: usize, room: usize, long: usize) -> bool
     ensures has { result ≡ true → room ≤ long - place }
@@ -208,7 +208,7 @@ pub(crate) fn put_at<A: Allocator>(text: &[u8], place: usize, list: &mut Vec<u8,
     list.as_mut_slice()[place..place + text.len()].copy_from_slice(text);
 }
 
-/// Makes a list at least so long, with room for a pair behind that.
+/// Makes a list at least so long, with room for a pair after that.
 fn reach<A: Allocator>(least: usize, list: &mut Vec<u8, A>) -> Result<(), AllocError>
     ensures long { IfOk result (λ _. least ≤ length list.new.items) }
     ensures same { OnOk result (take (length list.old.items) list.new.items ≡ list.old.items) }
@@ -221,7 +221,7 @@ fn reach<A: Allocator>(least: usize, list: &mut Vec<u8, A>) -> Result<(), AllocE
     Ok(())
 }
 
-/// Puts room behind a text, as `put` and `put_pair` like it.
+/// Puts room after a text, as `put` and `put_pair` like it.
 pub(crate) fn make_room<A: Allocator>(text: &mut Vec<u8, A>) -> Result<(), AllocError>
     ensures { OnOk result (text.new.items ≡ text.old.items ++ replicate 32 0) }
 {

@@ -99,7 +99,7 @@ impl<A: Allocator + Copy> Interpreter<A> {
         self.run_form(form, most, writer)
     }
 
-    /// A line behind its `set`, `add` or `remove`.
+    /// A line after its `set`, `add` or `remove`.
     // One way for the three: the code that reads an entity and an id, and finds them, stands once then.
     #[inline(always)]
     fn run_fact_line(&mut self, deed: Deed, rest: &str) -> Result<bool, AllocError>
@@ -136,7 +136,7 @@ impl<A: Allocator + Copy> Interpreter<A> {
         }
     }
 
-    /// A line behind its `entity`.
+    /// A line after its `entity`.
     #[inline(always)]
     fn run_entity_line(&mut self, rest: &str) -> Result<bool, AllocError>
         ensures { Obeys (one_word (λ n. CarryOut (InWorld (MakeEntity n))) (words rest.now)) self.old self.new result }
@@ -147,7 +147,7 @@ impl<A: Allocator + Copy> Interpreter<A> {
         }
     }
 
-    /// A line behind its `delete`.
+    /// A line after its `delete`.
     #[cold]
     #[inline(never)]
     fn run_delete_line(&mut self, rest: &str) -> Result<bool, AllocError>
@@ -160,7 +160,7 @@ impl<A: Allocator + Copy> Interpreter<A> {
         }
     }
 
-    /// A line behind its `rows`.
+    /// A line after its `rows`.
     #[cold]
     #[inline(never)]
     fn run_rows_line<W: Sink>(
@@ -359,7 +359,7 @@ impl<A: Allocator + Copy> Interpreter<A> {
     }
 }
 
-/// What a line does with a fact, if its first word says so, and what stands behind that.
+/// What a line does with a fact, if its first word says so, and what stands after that.
 #[inline(always)]
 fn fact_line_in(opening: Opening<'_>) -> Option<(Deed, &str)>
     ensures { IfSome result (λ p. form_opened opening.entry ≡ deed_line p.0 p.1.now) }
