@@ -61,7 +61,7 @@ use lib.Utf8.{{encode}}
 unfoldable Gives : List ℕ → List ℕ → ℕ → ℕ → Type 0
 Gives script output lines refused = (output_of script ≡ output) × (count_of script ≡ (lines, refused))
 
--- how many lines there are and how many are refused, and behind these numbers what they print
+-- how many lines there are and how many are refused, and after these numbers what they print
 abbrev told : List Effect → List ℕ
 told es = length es ∷ count_by (λ e. e.refused) es ∷ flat_map (λ e. e.printed) es
 
@@ -109,7 +109,7 @@ def run_of(run, plain):
 
 
 def lines_of(text):
-    """The lines of a text: behind the last line feed stands one only if it isn't empty."""
+    """The lines of a text: after the last line feed there is one only if it isn't empty."""
     lines = text.split(b"\n")
     return lines if lines[-1] else lines[:-1]
 
