@@ -1,6 +1,6 @@
 -- Lists of the dead, and what is forgotten of them, one after another.
 use Rattle.std.proofs.Common.{◌≡◌, ◌≢◌, ◌↔◌, ◌⊎◌, ℕ, ◌+◌, ◌<◌, ◌==◌, Bool, true, false, ◌||◌, List, [], ◌∷◌, ◌++◌, length, get_or, take, Option, Some, None, Result, Ok, Err, is_ok, is_err, if◌then◌else◌, refl, sym, ap, ◌∙◌, inl, inr, arith, true≢false}
-use Rattle.std.specs.Prelude.{map, slice_get}
+use Rattle.std.specs.Prelude.{filter_map, map, slice_get}
 use Rattle.std.proofs.lemmas.List.{take_more}
 use Rattle.std.proofs.lemmas.List.Elements.{Contains-append_left, Contains-append_right, Contains-push_cases, filter_map-append}
 use Rattle.std.proofs.lemmas.List.Folds.{list_any-append}
@@ -13,10 +13,10 @@ use Rattle.std.proofs.Math.Bool.{or-false}
 use Rattle.rel_traits.proofs.DeletedSets.{flipped}
 use Rattle.ecs_id.specs.declared.EntityId.{EntityId}
 use Rattle.ecs_model.specs.Map.{IsMap, Map, without}
-use Rattle.ecs_model.specs.World.{WorldState, entity_at, name_of}
+use Rattle.ecs_model.specs.World.{WorldState, name_of}
 use Rattle.ecs_model.proofs.steps.Deletions.{nat_IsMap-without}
 use Rattle.name_index.specs.Names.{IsUnnamed, Names, OthersKeepTheirs, entity_eq}
-use Rattle.ecs_world.specs.Changes.{deaths_of, entities_at}
+use Rattle.ecs_world.specs.Changes.{with_names}
 use Rattle.ecs_world.specs.State.{listed}
 use Rattle.ecs_world.proofs.DeletionEffects.{without_none, without_twice}
 use Rattle.ecs_world.proofs.Entities.{entity_eq_true, same_entity}
@@ -34,26 +34,23 @@ map-join : {X Y : Type 0} (f : X → Y) (xs ys : List X) → map f (xs ++ ys) �
 map-join f [] ys = refl
 map-join f (x ∷ xs) ys = ap (λ zs. f x ∷ zs) (map-join f xs ys)
 
-module _ (w : WorldState) (is : List ℕ) (k d : ℕ) (inside : k < length is) (o : Option EntityId) (at : o ≡ entity_at w (get_or is k d)) where
-  -- one more entity, if it lives
-  pub entities_more : entities_at w (take (k + 1) is) ≡ entities_at w (take k is) ++ listed o
-  entities_more =
-      ap (entities_at w) (take_more is k d inside) ∙ filter_map-append (entity_at w) (take k is) (get_or is k d ∷ [])
-      ∙ ap (λ es. entities_at w (take k is) ++ es) (one_listed (entity_at w (get_or is k d)) ∙ ap listed (sym at))
-
-  -- with its name
-  pub deaths_more : deaths_of w (take (k + 1) is) ≡ deaths_of w (take k is) ++ map (λ e. (e, name_of w e.index)) (listed o)
-  deaths_more = ap (map (λ e. (e, name_of w e.index))) entities_more ∙ map-join (λ e. (e, name_of w e.index)) (entities_at w (take k is)) (listed o)
+module _ {X : Type 0} (f : ℕ → Option X) (is : List ℕ) (k d : ℕ) (inside : k < length is) (o : Option X) (at : o ≡ f (get_or is k d)) where
+  -- one more, if there is one
+  pub listed_more : filter_map f (take (k + 1) is) ≡ filter_map f (take k is) ++ listed o
+  listed_more =
+      ap (filter_map f) (take_more is k d inside) ∙ filter_map-append f (take k is) (get_or is k d ∷ [])
+      ∙ ap (λ es. filter_map f (take k is) ++ es) (one_listed (f (get_or is k d)) ∙ ap listed (sym at))
 
 none_more : {X : Type 0} (xs : List X) → xs ++ [] ≡ xs
 none_more [] = refl
 none_more (x ∷ xs) = ap (λ ys. x ∷ ys) (none_more xs)
 
-pub entities_same : (w : WorldState) (is : List ℕ) (k d : ℕ) → k < length is → None ≡ entity_at w (get_or is k d) → entities_at w (take (k + 1) is) ≡ entities_at w (take k is)
-entities_same w is k d inside at = entities_more w is k d inside None at ∙ none_more (entities_at w (take k is))
+pub listed_same : {X : Type 0} (f : ℕ → Option X) (is : List ℕ) (k d : ℕ) → k < length is → None ≡ f (get_or is k d) → filter_map f (take (k + 1) is) ≡ filter_map f (take k is)
+listed_same f is k d inside at = listed_more f is k d inside None at ∙ none_more (filter_map f (take k is))
 
-pub deaths_same : (w : WorldState) (is : List ℕ) (k d : ℕ) → k < length is → None ≡ entity_at w (get_or is k d) → deaths_of w (take (k + 1) is) ≡ deaths_of w (take k is)
-deaths_same w is k d inside at = deaths_more w is k d inside None at ∙ none_more (deaths_of w (take k is))
+-- one entity more, with its name
+pub deaths_more : (w : WorldState) (es : List EntityId) (k : ℕ) (d : EntityId) → k < length es → with_names w (take (k + 1) es) ≡ with_names w (take k es) ++ (get_or es k d, name_of w (get_or es k d).index) ∷ []
+deaths_more w es k d inside = ap (with_names w) (take_more es k d inside) ∙ map-join (λ e. (e, name_of w e.index)) (take k es) (get_or es k d ∷ [])
 
 -- the first of a list of one fact at most
 pub few_listed : {X : Type 0} (xs : List X) → length xs < 2 → listed (slice_get xs 0) ≡ xs

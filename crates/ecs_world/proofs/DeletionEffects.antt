@@ -49,7 +49,7 @@ use Rattle.rel_traits.specs.Deletions.{is_lost}
 use Rattle.name_index.specs.Names.{IsOneToOne, Names}
 use Rattle.rel_traits.specs.PinCounts.{Counts}
 use Rattle.ecs_world.specs.Changes.{entities_at}
-use Rattle.ecs_world.specs.Releases.{mentions_one}
+use Rattle.ecs_world.specs.Releases.{indexes_of, mentions_one}
 use Rattle.ecs_world.specs.State.{IsWorld, Parts, all_facts, byte_count, is_known_rightly, name_in, names_of, parts_of, state_of, type_of, value_in}
 use Rattle.ecs_world.proofs.Entities.{alive_of, generation_of}
 use Rattle.ecs_world.proofs.Facts.{IsMap-facts, bytes_in, find-facts, same_facts}
@@ -163,6 +163,10 @@ module _ (f : ℕ → ℕ) where
       let first = others e.0 es parts.0 in
       let rest = apart es parts.1 in
       λ k. first k && rest k
+
+  indexes_back : (is : List ℕ) → indexes_of (map entity is) ≡ is
+  indexes_back [] = refl
+  indexes_back (i ∷ is) = ap (λ xs. i ∷ xs) (indexes_back is)
 
   any_entity : (is : List ℕ) (i : ℕ) → list_any (λ e. e.index == i) (map entity is) ≡ among is i
   any_entity [] i = refl
@@ -503,19 +507,25 @@ module _ {parts : Parts} (world : IsWorld parts) {v : WorldState} (is : state_of
     state_alike h' parts.holdings parts.names parts.schemas parts.pins parts.accepted alike ∙ is,
   )
 
-  module _ (e : EntityId) (judged : first_reason (reasons v (Delete e)) ≡ None) (ids : List ℕ) (dead_at : ids ≡ keys (deleted v e.index))
-      (losing : List Key) (lost_at : losing ≡ filter (is_lost v e.index) (keys v.facts)) (dead : List EntityId) (listed : dead ≡ entities_at v ids) where
+  module _ (e : EntityId) (judged : first_reason (reasons v (Delete e)) ≡ None) (losing : List Key) (lost_at : losing ≡ filter (is_lost v e.index) (keys v.facts))
+      (dead : List EntityId) (listed : dead ≡ entities_at v (keys (deleted v e.index))) where
     none_against : first_reason (reasons (state_of parts) (Delete e)) ≡ None
     none_against = subst (λ u. first_reason (reasons u (Delete e)) ≡ None) (sym is) judged
 
-    ids_are : ids ≡ keys (deleted (state_of parts) e.index)
-    ids_are = dead_at ∙ ap (λ u. keys (deleted u e.index)) (sym is)
+    ids_are : keys (deleted v e.index) ≡ keys (deleted (state_of parts) e.index)
+    ids_are = ap (λ u. keys (deleted u e.index)) (sym is)
 
     losing_are : losing ≡ lost world e none_against
     losing_are = lost_at ∙ ap (λ u. filter (is_lost u e.index) (keys u.facts)) (sym is)
 
     dead_listed : dead ≡ entities_at (state_of parts) (keys (deleted (state_of parts) e.index))
     dead_listed = listed ∙ (λ k. entities_at (sym is k) (ids_are k))
+
+    dead_indexes : indexes_of dead ≡ keys (deleted (state_of parts) e.index)
+    dead_indexes = ap indexes_of (dead_listed ∙ dead_are world e none_against) ∙ indexes_back (count_at (parts.holdings).live) (keys (deleted (state_of parts) e.index))
+
+    pub indexes_are : indexes_of dead ≡ keys (deleted v e.index)
+    indexes_are = dead_indexes ∙ sym ids_are
 
     pub losing_rise : IsStrictlySortedBy key_cmp losing
     losing_rise = subst (IsStrictlySortedBy key_cmp) (sym losing_are) (lost_rise world e none_against)
@@ -532,18 +542,16 @@ module _ {parts : Parts} (world : IsWorld parts) {v : WorldState} (is : state_of
           subst (λ es. HoldAlike h' (without_each es (with_facts_changed [] (lost world e none_against) parts.holdings))) dead_listed
           (subst (λ ks. HoldAlike h' (without_each dead (with_facts_changed [] ks parts.holdings))) losing_are alike)
 
-      pub unheld : (ids' : List ℕ) → ids' ≡ ids → (d : ℕ) (i : Id) → mentions_one ids' i ≡ true → holds_id h' d i ≡ false
-      unheld ids' same d i m = none_mentioned world e none_against h' whole' alike_left d i (ap (λ xs. mentions_one xs i) (sym (same ∙ ids_are)) ∙ m)
+      pub unheld : (d : ℕ) (i : Id) → mentions_one (indexes_of dead) i ≡ true → holds_id h' d i ≡ false
+      unheld d i m = none_mentioned world e none_against h' whole' alike_left d i (ap (λ xs. mentions_one xs i) (sym dead_indexes) ∙ m)
 
-      pub buried_is : (ids' : List ℕ) → ids' ≡ ids → (dead' : List EntityId) → dead' ≡ dead
-          → (schemas' : Map ℕ Schema) → (IsMap nat_cmp parts.schemas → schemas' ≡ without nat_cmp parts.schemas (λ i. list_any (λ e. e.index == i) dead'))
-          → (names' : Names) → ((n : List ℕ) (f : EntityId) → (finite.get names' n ≡ Some f) ↔ ((finite.get parts.names n ≡ Some f) × (Contains dead' f → ⊥)))
-          → ((test : Id × ℕ → Bool) → list_all (λ c. mentions_one ids' c.0 || test c) (parts.holdings).known ≡ true → list_all test h'.known ≡ true)
+      pub buried_is : (schemas' : Map ℕ Schema) → (IsMap nat_cmp parts.schemas → schemas' ≡ without nat_cmp parts.schemas (λ i. list_any (λ e. e.index == i) dead))
+          → (names' : Names) → ((n : List ℕ) (f : EntityId) → (finite.get names' n ≡ Some f) ↔ ((finite.get parts.names n ≡ Some f) × (Contains dead f → ⊥)))
+          → ((test : Id × ℕ → Bool) → list_all (λ c. mentions_one (indexes_of dead) c.0 || test c) (parts.holdings).known ≡ true → list_all test h'.known ≡ true)
           → IsWorld (parts_of h' names' schemas' parts.pins parts.accepted) × (state_of (parts_of h' names' schemas' parts.pins parts.accepted) ≡ without_entities v (deleted v e.index))
-      buried_is ids' same_ids dead' same_dead schemas' fields names' names_are released =
-          let these = same_dead ∙ dead_listed in
+      buried_is schemas' fields names' names_are released =
           let done = buried world e none_against h' whole' alike_left schemas'
-          (subst (λ es. schemas' ≡ without nat_cmp parts.schemas (λ i. list_any (λ e. e.index == i) es)) these (fields ((world.sound).in_order).schemas)) names'
-          (subst (λ (es : List EntityId). (n : List ℕ) (f : EntityId) → (finite.get names' n ≡ Some f) ↔ ((finite.get parts.names n ≡ Some f) × (Contains es f → ⊥))) these names_are)
-          (subst (λ xs. (test : Id × ℕ → Bool) → list_all (λ c. mentions_one xs c.0 || test c) (parts.holdings).known ≡ true → list_all test h'.known ≡ true) (same_ids ∙ ids_are) released) in
+          (subst (λ es. schemas' ≡ without nat_cmp parts.schemas (λ i. list_any (λ e. e.index == i) es)) dead_listed (fields ((world.sound).in_order).schemas)) names'
+          (subst (λ (es : List EntityId). (n : List ℕ) (f : EntityId) → (finite.get names' n ≡ Some f) ↔ ((finite.get parts.names n ≡ Some f) × (Contains es f → ⊥))) dead_listed names_are)
+          (subst (λ xs. (test : Id × ℕ → Bool) → list_all (λ c. mentions_one xs c.0 || test c) (parts.holdings).known ≡ true → list_all test h'.known ≡ true) dead_indexes released) in
           (done.0, done.1 ∙ ap (λ u. without_entities u (deleted u e.index)) is)

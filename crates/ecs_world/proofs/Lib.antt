@@ -23,6 +23,7 @@ pub mod AdditionEffects
 pub mod BaseCopies
 pub mod DeletionEffects
 pub mod DeathLists
+pub mod OrderedEntities
 pub mod RemovalEffects
 pub mod WrittenFacts
 pub mod FirstReasons

@@ -7,6 +7,7 @@ use Rattle.std.specs.Option.{option_and_then}
 use Rattle.std.specs.Ordering.{nat_cmp}
 pub use Rattle.std.proofs.lemmas.Bool.{or_parts as neither, false_from_ne_true as no_true}
 use Rattle.rel_travel.proofs.Marks.{or_found}
+use Rattle.ecs_id.specs.declared.EntityId.{EntityId}
 use Rattle.ecs_id.specs.declared.Place.{Place}
 use Rattle.ecs_id.specs.declared.TableKey.{TableKey}
 use Rattle.ecs_id.specs.Id.{Id, id_cmp, id_eq, id_eq_itself, id_eq_same, plain, pair, mentioned}
@@ -32,7 +33,7 @@ use Rattle.ecs_archetypes.proofs.Soundness.{holdings}
 use Rattle.ecs_archetypes.proofs.EnteredTables.{ids_of_shape}
 use Rattle.ecs_archetypes.proofs.StandingTables.{stay_apart}
 pub use Rattle.ecs_world.specs.Releases.{AreLeft}
-use Rattle.ecs_world.specs.Releases.{gets_no_data, mentions_one}
+use Rattle.ecs_world.specs.Releases.{gets_no_data, indexes_of, mentions_one}
 
 -- cells have each id that is found among theirs
 any_key : (test : Id → Bool) (cs : Cells) → list_any test (keys cs) ≡ true → (i : Id) × (test i ≡ true) × (is_some (value_at id_cmp cs i) ≡ true)
@@ -266,8 +267,20 @@ take_whole (x ∷ xs) (suc n) h = ap (λ ys. x ∷ ys) (take_whole xs n (omega (
 pub left_all : {X : Type 0} (goes : X → Id → Bool) (xs : List X) (g h : Housing) (n : ℕ) → length xs ≤ n → IsLeftTo goes xs g n h → AreLeft (λ i. list_any (λ x. goes x i) xs) g h
 left_all goes xs g h n end left = subst (λ ys. AreLeft (λ i. list_any (λ y. goes y i) ys) g h) (take_whole xs n end) left
 
-pub left_dead : (dead : List ℕ) (g h : Housing) (n : ℕ) → length dead ≤ n → IsLeftTo mentions dead g n h → AreLeft (mentions_one dead) g h
-left_dead dead g h n end left = left_same (λ i. list_any (λ d. mentions d i) dead) (mentions_one dead) g h (λ i. sym (mentions_each dead i)) (left_all mentions dead g h n end left)
+-- whether an id mentions this entity
+abbrev pub mentions_entity : EntityId → Id → Bool
+mentions_entity dead = mentions dead.index
+
+pub entities_each : (dead : List EntityId) (i : Id) → mentions_one (indexes_of dead) i ≡ list_any (λ d. mentions_entity d i) dead
+entities_each dead i = mentions_each (indexes_of dead) i ∙ by dead
+  where
+    by : (es : List EntityId) → list_any (λ d. mentions d i) (indexes_of es) ≡ list_any (λ d. mentions_entity d i) es
+    by [] = refl
+    by (e ∷ es) = ap (λ b. mentions e.index i || b) (by es)
+
+pub left_dead : (dead : List EntityId) (g h : Housing) (n : ℕ) → length dead ≤ n → IsLeftTo mentions_entity dead g n h → AreLeft (mentions_one (indexes_of dead)) g h
+left_dead dead g h n end left =
+    left_same (λ i. list_any (λ d. mentions_entity d i) dead) (mentions_one (indexes_of dead)) g h (λ i. sym (entities_each dead i)) (left_all mentions_entity dead g h n end left)
 
 pub left_tagged : (came : List (Key × ℕ)) (g h : Housing) (n : ℕ) → length came ≤ n → IsLeftTo tags_with came g n h → AreLeft (gets_no_data came) g h
 left_tagged came g h n end left = left_same (λ i. list_any (λ k. tags_with k i) came) (gets_no_data came) g h (λ i. sym (tags_each came i)) (left_all tags_with came g h n end left)

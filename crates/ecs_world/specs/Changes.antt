@@ -1,6 +1,8 @@
 -- What commands change, and what they answer of it.
 use Rattle.std.specs.List.{list_any}
 use Rattle.std.specs.Prelude.{◌≡◌, ℕ, ℤ, true, List, [], ◌∷◌, Contains, filter_map, fold, map, take, Option, Some, unwrap_or}
+use Rattle.std.specs.Ordering.{nat_cmp, on, then_cmp}
+use Rattle.std.specs.declared.cmp.Ordering.{Ordering}
 use Rattle.ecs_id.specs.declared.EntityId.{EntityId}
 use Rattle.ecs_id.specs.Id.{Id}
 use Rattle.ecs_model.specs.steps.FactChanges.{coming, replaced, with_new}
@@ -61,9 +63,17 @@ pub record AreCopies (w : WorldState) (e : EntityId) (b : ℕ) (ks : List Key) :
 abbrev pub entities_at : WorldState → List ℕ → List EntityId
 entities_at w is = filter_map (entity_at w) is
 
--- with the names that they have
+-- entities with the names that they have
+abbrev pub with_names : WorldState → List EntityId → List (EntityId × Option (List ℕ))
+with_names w es = map (λ e. (e, name_of w e.index)) es
+
+-- the live entities at these indexes, with their names
 abbrev pub deaths_of : WorldState → List ℕ → List (EntityId × Option (List ℕ))
-deaths_of w is = map (λ e. (e, name_of w e.index)) (entities_at w is)
+deaths_of w is = with_names w (entities_at w is)
+
+-- by index, then by generation
+abbrev pub entity_cmp : EntityId → EntityId → Ordering
+entity_cmp = then_cmp (on (λ e. e.index) nat_cmp) (on (λ e. e.generation) nat_cmp)
 
 -- a refusal is the first reason; memory may be refused whatever the reasons are
 abbrev pub TellsRefusal : Option Refusal → CommandError → Type 0

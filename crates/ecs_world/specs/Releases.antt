@@ -1,6 +1,7 @@
 -- Which tables are released.
-use Rattle.std.specs.Prelude.{ℕ, ◌==◌, Bool, false, not, ◌&&◌, ◌||◌, IsTrue, List}
+use Rattle.std.specs.Prelude.{ℕ, ◌==◌, Bool, false, not, ◌&&◌, ◌||◌, IsTrue, List, map}
 use Rattle.std.specs.List.{list_all, list_any}
+use Rattle.ecs_id.specs.declared.EntityId.{EntityId}
 use Rattle.ecs_id.specs.Id.{Id, plain, pair, mentioned}
 use Rattle.ecs_model.specs.World.{WorldState, Key, holds, is_live, key_eq, pair_is_tag}
 use Rattle.ecs_archetypes.specs.Archetypes.{known_in}
@@ -14,6 +15,10 @@ use Rattle.ecs_world.specs.Standing.{Standing}
 abbrev pub gets_no_data : List (Key × ℕ) → Id → Bool
 gets_no_data came (plain c) = false
 gets_no_data came (pair r t) = list_any (λ k. key_eq k.0 (r, plain pair_is_tag)) came
+
+-- the indexes of entities
+abbrev pub indexes_of : List EntityId → List ℕ
+indexes_of es = map (λ e. e.index) es
 
 -- whether an id mentions one of these
 abbrev pub mentions_one : List ℕ → Id → Bool

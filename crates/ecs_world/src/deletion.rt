@@ -1,10 +1,13 @@
 //! `delete`, with all who fall with an entity and all facts that mention these.
 
 ghost use Rattle.std.specs.Prelude.{◌≡◌, ◌==◌, ◌↔◌, ◌<◌, ℕ, List, None, Some, false, true, Contains, IfErr, IfOk};
-ghost use Rattle.std.specs.Prelude.{OnErr, OnOk, filter, length};
+ghost use Rattle.std.specs.Prelude.{OnErr, OnOk, filter, filter_map, length};
 ghost use Rattle.std.specs.List.{list_any};
+ghost use Rattle.std.specs.List.Sorted.{IsStrictlySortedBy};
 ghost use Rattle.std.specs.Ordering.{nat_cmp};
 ghost use Rattle.std.specs.FinMap as finite;
+ghost use Rattle.ecs_archetypes.specs.Holdings.{entity_at};
+ghost use Rattle.ecs_archetypes.specs.Housing.{holdings_of};
 ghost use Rattle.ecs_archetypes.specs.Staying.{TablesStay};
 ghost use Rattle.ecs_id.specs.declared.EntityId.{EntityId};
 ghost use Rattle.ecs_model.specs.steps.Outcomes.{AnswersStep};
@@ -13,7 +16,7 @@ ghost use Rattle.ecs_model.specs.Refusal.{first_reason};
 ghost use Rattle.ecs_model.specs.World.{is_alive, is_built_in as is_built_in_index, name_of};
 ghost use Rattle.ecs_model.specs.steps.FactChanges.{deleted, mentions_gone};
 ghost use Rattle.ecs_model.specs.steps.Step.{Delete, delete_reasons, reasons, step, without_entities};
-ghost use Rattle.ecs_world.specs.Changes.{TellsRefusal, deaths_of, entities_at};
+ghost use Rattle.ecs_world.specs.Changes.{TellsRefusal, entities_at, entity_cmp, with_names};
 ghost use Rattle.ecs_world.specs.State.{listed, no_change};
 ghost use Rattle.ecs_world.specs.Releases.{NoneGo, OnlyForgottenGo, mentions_one};
 ghost use Rattle.rel_traits.specs.Deletions.{is_lost};
@@ -24,16 +27,34 @@ use crate::death_names::DeathName;
 use crate::refusals::is_built_in;
 use crate::releases::release_dead;
 use crate::{Changes, Death, Memory, World};
-use ecs_archetypes::Links;
+use ecs_archetypes::{Archetypes, Links};
 use ecs_id::EntityId;
 use ecs_model::FactKey;
 use ecs_model::faults::{CommandError, Refusal};
 use ecs_schema::Schema;
 use name_index::NameIndex;
-use rel_traits::{Deletion, judge_delete};
-use std::alloc::Allocator;
+use rel_traits::{GoneFacts, judge_delete};
+use std::alloc::{AllocError, Allocator};
 use std::collections::BTreeMap;
-use std::{mem, slice};
+use std::mem;
+
+/// Who is deleted, and the facts that go with them.
+#[derive(Drop)]
+pub(crate) struct Deletion<A: Allocator> {
+    /// By ascending index.
+    dead: Vec<EntityId, A>,
+    facts: GoneFacts<A>,
+}
+
+impl<A: Allocator + Copy> Deletion<A> {
+    /// Empty lists, which take no memory.
+    pub(crate) fn new(alloc: A) -> Deletion<A> {
+        Deletion {
+            dead: Vec::new(alloc),
+            facts: GoneFacts::new(alloc),
+        }
+    }
+}
 
 impl<A: Allocator + Copy> World<A> {
     /// Deletes an entity, and with it all who fall by the cleanup rules of what they hold: OnDelete and OnDeleteTarget
@@ -89,10 +110,11 @@ impl<A: Allocator + Copy> World<A> {
     ) -> Result<(), CommandError>
         requires alive { is_alive self.old.state entity ≡ true }
         ensures same { self.new ≡ self.old }
-        ensures dead { OnOk result (deletion.new.dead.items ≡ keys (deleted self.old.state entity.index)) }
-        ensures lost { OnOk result (deletion.new.lost.items ≡ filter (is_lost self.old.state entity.index)
+        ensures dead { OnOk result (deletion.new.dead.items ≡ entities_at self.old.state
+            (keys (deleted self.old.state entity.index))) }
+        ensures lost { OnOk result (deletion.new.facts.lost.items ≡ filter (is_lost self.old.state entity.index)
             (keys self.old.state.facts)) }
-        ensures went { OnOk result (deletion.new.went.items ≡ filter
+        ensures went { OnOk result (deletion.new.facts.went.items ≡ filter
             (mentions_gone self.old.state (deleted self.old.state entity.index))
             (keys self.old.state.facts)) }
         ensures judged { OnOk result (first_reason (delete_reasons self.old.state (deleted self.old.state entity.index))
@@ -116,7 +138,11 @@ impl<A: Allocator + Copy> World<A> {
         ) {
             return Err(CommandError::Refused(refusal));
         }
-        if deletion.gather(&links, &self.scratch).is_err() {
+        if deletion.facts.gather(&links, &self.scratch).is_err() {
+            return Err(CommandError::Memory);
+        }
+        let found = self.scratch.found();
+        if list_entities(&self.archetypes, found, &mut deletion.dead).is_err() {
             return Err(CommandError::Memory);
         }
         Ok(())
@@ -125,38 +151,36 @@ impl<A: Allocator + Copy> World<A> {
     /// What a deletion will have changed. All memory that this takes is got here.
     fn tell_deletion(&self, deletion: &mut Deletion<A>) -> Result<Changes<A>, Memory>
         ensures told { IfOk result (λ changes. changes ≡ record no_change {
-          died = deaths_of self.now.state deletion.old.dead.items;
-          went = deletion.old.went.items;
+          died = with_names self.now.state deletion.old.dead.items;
+          went = deletion.old.facts.went.items;
         }) }
         ensures dead { deletion.new.dead ≡ deletion.old.dead }
-        ensures lost { deletion.new.lost ≡ deletion.old.lost }
+        ensures lost { deletion.new.facts.lost ≡ deletion.old.facts.lost }
     {
         let mut died = Vec::new(self.alloc);
         self.list_deaths(&deletion.dead, &mut died)?;
-        if deletion.went.len() < 2 {
-            let went = only_of(&deletion.went);
+        if deletion.facts.went.len() < 2 {
+            let went = only_of(&deletion.facts.went);
             let Ok(fallen) = Box::new(self.alloc, Fallen { died, went }) else {
                 return Err(Memory);
             };
             return Ok(Changes::of(Told::Died(fallen)));
         }
         let lists = ChangeLists::new(self.alloc)?;
-        let went = mem::replace(&mut deletion.went, Vec::new(self.alloc));
+        let went = mem::replace(&mut deletion.facts.went, Vec::new(self.alloc));
         let lists = lists.with_facts(Vec::new(self.alloc), went);
         Ok(Changes::of(Told::Lists(lists.with_died(died))))
     }
 
-    /// Lists the live entities of these indexes with their names.
-    fn list_deaths(&self, indexes: &[u32], died: &mut Vec<Death<A>, A>) -> Result<(), Memory>
-        ensures { OnOk result (died.new.items ≡ deaths_of self.now.state indexes.now) }
+    /// Lists these entities with their names.
+    fn list_deaths(&self, dead: &[EntityId], died: &mut Vec<Death<A>, A>) -> Result<(), Memory>
+        ensures { OnOk result (died.new.items ≡ with_names self.now.state dead.now) }
     {
         died.clear();
-        for index in indexes {
-            if let Some(entity) = self.at(*index) {
-                let death = self.death_of(entity)?;
-                if died.push(death).is_err() {
-                    return Err(Memory);
-                }
+        for entity in dead {
+            let death = self.death_of(*entity)?;
+            if died.push(death).is_err() {
+                return Err(Memory);
             }
         }
         Ok(())
@@ -176,69 +200,47 @@ impl<A: Allocator + Copy> World<A> {
     /// Deletes the entities that were found, with all facts that mention them. The command is not counted yet.
     fn bury(&mut self, entity: EntityId, deletion: &Deletion<A>) -> Result<(), Memory>
         requires judged { first_reason (reasons self.old.state (Delete entity)) ≡ None }
-        requires dead { deletion.now.dead.items ≡ keys (deleted self.old.state entity.index) }
-        requires lost { deletion.now.lost.items ≡ filter (is_lost self.old.state entity.index)
+        requires dead { deletion.now.dead.items ≡ entities_at self.old.state
+            (keys (deleted self.old.state entity.index)) }
+        requires lost { deletion.now.facts.lost.items ≡ filter (is_lost self.old.state entity.index)
             (keys self.old.state.facts) }
         ensures buried { OnOk result (self.new.state ≡ without_entities self.old.state
             (deleted self.old.state entity.index)) }
         ensures refused { OnErr result (self.new.state ≡ self.old.state) }
         ensures goes_on { TablesGoOn self.old.tables self.new.tables }
-        ensures stay { OnOk result (TablesStay (list_any (mentions_one deletion.now.dead.items)) self.old.tables
-            self.new.tables) }
-        ensures kept { OnErr result (NoneGo self.old self.new) }
-    {
-        if let [index] = deletion.dead.as_slice()
-            && let Some(only) = self.at(*index)
-        {
-            return self.bury_each(entity, deletion, slice::from_ref(&only));
-        }
-        let mut dead = Vec::new(self.alloc);
-        self.list_entities(&deletion.dead, &mut dead)?;
-        self.bury_each(entity, deletion, &dead)
-    }
-
-    /// The same, by the entities that were found.
-    fn bury_each(
-        &mut self,
-        entity: EntityId,
-        deletion: &Deletion<A>,
-        dead: &[EntityId],
-    ) -> Result<(), Memory>
-        requires judged { first_reason (reasons self.old.state (Delete entity)) ≡ None }
-        requires dead { deletion.now.dead.items ≡ keys (deleted self.old.state entity.index) }
-        requires lost { deletion.now.lost.items ≡ filter (is_lost self.old.state entity.index)
-            (keys self.old.state.facts) }
-        requires listed { dead.now ≡ entities_at self.old.state deletion.now.dead.items }
-        ensures buried { OnOk result (self.new.state ≡ without_entities self.old.state
-            (deleted self.old.state entity.index)) }
-        ensures refused { OnErr result (self.new.state ≡ self.old.state) }
-        ensures goes_on { TablesGoOn self.old.tables self.new.tables }
-        ensures stay { OnOk result (TablesStay (list_any (mentions_one deletion.now.dead.items)) self.old.tables
-            self.new.tables) }
+        ensures stay { OnOk result (TablesStay (list_any (mentions_one (keys (deleted self.old.state entity.index))))
+            self.old.tables self.new.tables) }
         ensures kept { OnErr result (NoneGo self.old self.new) }
     {
         let _ = entity;
+        let dead = deletion.dead.as_slice();
         self.archetypes
-            .change_facts(&mut self.plan, &[], &deletion.lost, dead)?;
-        release_dead(&mut self.archetypes, &deletion.dead);
+            .change_facts(&mut self.plan, &[], &deletion.facts.lost, dead)?;
+        release_dead(&mut self.archetypes, dead);
         forget(&mut self.names, &mut self.schemas, dead);
         Ok(())
     }
+}
 
-    /// Lists the live entities of these indexes.
-    fn list_entities(&self, indexes: &[u32], entities: &mut Vec<EntityId, A>) -> Result<(), Memory>
-        ensures { OnOk result (entities.new.items ≡ entities_at self.now.state indexes.now) }
-    {
-        entities.clear();
-        for index in indexes {
-            if let Some(entity) = self.at(*index) {
-                if entities.push(entity).is_err() {
-                    return Err(Memory);
-                }
-            }
+/// Lists the live entities of these indexes in order, each once.
+fn list_entities<A: Allocator + Copy>(
+    archetypes: &Archetypes<A>,
+    indexes: &[u32],
+    entities: &mut Vec<EntityId, A>,
+) -> Result<(), AllocError>
+    ensures ascend { OnOk result (IsStrictlySortedBy entity_cmp entities.new.items) }
+    ensures same { OnOk result ((e : EntityId) → Contains entities.new.items e
+        ↔ Contains (filter_map (entity_at (holdings_of archetypes.now)) indexes.now) e) }
+{
+    entities.clear();
+    for index in indexes {
+        if let Some(entity) = archetypes.at(*index) {
+            entities.push(entity)?;
         }
-        Ok(())
     }
+    entities.sort_unstable();
+    entities.dedup();
+    Ok(())
 }
 
 /// The fact of a list that has one at most.

@@ -46,13 +46,14 @@ mod single_facts;
 
 pub use changes::{Changes, Death};
 pub use columns::ColumnFault;
+use deletion::Deletion;
 use ecs_archetypes::{Archetypes, FactPlan};
 pub use ecs_archetypes::{EntityFacts, Links, TableGraph};
 pub use ecs_model::FactKey;
 use ecs_schema::Schema;
 use name_index::NameIndex;
 pub use raw_column::Memory;
-use rel_traits::{Deletion, PinCounts};
+use rel_traits::PinCounts;
 use rel_travel::Scratch;
 use std::alloc::{Allocator, Global};
 use std::collections::BTreeMap;

@@ -5,12 +5,12 @@ ghost use Rattle.std.specs.List.{list_any};
 ghost use Rattle.ecs_id.specs.Id.{Id, mentioned};
 ghost use Rattle.ecs_archetypes.specs.Holdings.{holds_id};
 ghost use Rattle.ecs_archetypes.specs.Housing.{IsHoused, holdings_of};
-ghost use Rattle.ecs_world.specs.Releases.{AreLeft, gets_no_data, mentions_one};
+ghost use Rattle.ecs_world.specs.Releases.{AreLeft, gets_no_data, indexes_of, mentions_one};
 
 use crate::built_in::PAIR_IS_TAG;
 use component_index::{Part, Pattern};
 use ecs_archetypes::{Archetypes, SizedFact};
-use ecs_id::Id;
+use ecs_id::{EntityId, Id};
 use std::alloc::Allocator;
 
 /// Releases the tables of pairs of each relationship to which PairIsTag has come. No entity holds such a pair.
@@ -34,14 +34,14 @@ pub(crate) fn release_tag_pairs<A: Allocator + Copy>(
 }
 
 /// Releases the tables with an id that mentions a dead entity. No entity holds such an id.
-pub(crate) fn release_dead<A: Allocator + Copy>(archetypes: &mut Archetypes<A>, dead: &[u32])
-    requires unheld { (e : ℕ) (i : Id) → mentions_one dead.now i ≡ true
+pub(crate) fn release_dead<A: Allocator + Copy>(archetypes: &mut Archetypes<A>, dead: &[EntityId])
+    requires unheld { (e : ℕ) (i : Id) → mentions_one (indexes_of dead.now) i ≡ true
         → holds_id (holdings_of archetypes.old) e i ≡ false }
     requires whole { IsHoused archetypes.old }
-    ensures { AreLeft (mentions_one dead.now) archetypes.old archetypes.new }
+    ensures { AreLeft (mentions_one (indexes_of dead.now)) archetypes.old archetypes.new }
 {
-    for index in dead {
-        release_mentions(archetypes, *index);
+    for entity in dead {
+        release_mentions(archetypes, entity.index);
     }
 }
 

@@ -33,7 +33,6 @@ use Rattle.rel_travel.specs.Lists.{Work}
 use Rattle.rel_travel.specs.Referring as refer
 use Rattle.rel_traits.specs.Deletions.{IsDeletion, OfDeletion, is_lost}
 use Rattle.rel_traits.specs.Sees.{HasCounts}
-use Rattle.rel_traits.proofs.UniqueLists.{is_keys}
 use Rattle.rel_traits.proofs.SeenWorlds.{is_filter, of_world}
 
 -- the facts of these entities whose ids pass a test
@@ -76,13 +75,11 @@ module _ (w : WorldState) (e : ℕ) (s : Work) (h : IsWellFormed w) (live : Cont
   pub mentions_is : (i : Id) → list_any gone (mentioned i) ≡ refer.mentions_any s.found i
   mentions_is i = λ j. list_any (λ x. gone_is x j) (mentioned i)
 
-  pub dead_are : (ks : List ℕ) → IsStrictlySortedBy nat_cmp ks → ((y : ℕ) → Contains ks y ↔ Contains s.found y) → ks ≡ keys (deleted w e)
-  dead_are ks rises same =
-      is_keys nat_cmp nat_cmp_total nat_cmp-IsAntisymmetric (deleted w e) (IsMap-deleted w e) ks rises
-      (λ y. (
-        λ c. key_there nat_cmp nat_cmp-IsAntisymmetric (deleted w e) y ((deleted_is_least w e lives y).1 ((d.fall y).0 ((same y).0 c))),
-        λ c. (same y).1 ((d.fall y).1 ((deleted_is_least w e lives y).0 (there_key nat_cmp nat_cmp_total (deleted w e) y c))),
-      ))
+  pub found_are : (y : ℕ) → Contains s.found y ↔ Contains (keys (deleted w e)) y
+  found_are y = (
+    λ c. key_there nat_cmp nat_cmp-IsAntisymmetric (deleted w e) y ((deleted_is_least w e lives y).1 ((d.fall y).0 c)),
+    λ c. (d.fall y).1 ((deleted_is_least w e lives y).0 (there_key nat_cmp nat_cmp_total (deleted w e) y c)),
+  )
 
   -- the ids of an entity that mention one of the found
   abbrev mentioning : ℕ → List Id
@@ -154,9 +151,8 @@ module _ (live : List ℕ) (ids : ℕ → List Id) (s : Work) where
   abbrev pub mention : ℕ → List Id
   mention y = filter (refer.mentions_any s.found) (ids y)
 
-  pub tells_dead : (ks : List ℕ) → IsStrictlySortedBy nat_cmp ks → ((y : ℕ) → Contains ks y ↔ Contains s.found y) → OfDeletion live ids s (λ w e. ks ≡ keys (deleted w e))
-  tells_dead ks rises same w e sees lives d =
-      let seen = of_world sees (λ live ids. Contains live e × IsDeletion live ids s e) (lives, d) in dead_are w e s sees.sound seen.0 seen.1 ks rises same
+  pub tells_dead : OfDeletion live ids s (λ w e. (y : ℕ) → Contains s.found y ↔ Contains (keys (deleted w e)) y)
+  tells_dead w e sees lives d = let seen = of_world sees (λ live ids. Contains live e × IsDeletion live ids s e) (lives, d) in found_are w e s sees.sound seen.0 seen.1
 
   pub tells_lost : (old ks : List Key) → old ≡ facts_of mention s.referrers → IsStrictlySortedBy key_cmp ks → ((k : Key) → Contains ks k ↔ Contains old k)
       → OfDeletion live ids s (λ w e. ks ≡ filter (is_lost w e) (keys w.facts))

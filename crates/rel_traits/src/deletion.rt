@@ -1,7 +1,5 @@
-//! What goes with deleted entities.
-ghost use Rattle.std.specs.Prelude.{◌≡◌, ◌↔◌, ◌++◌, ◌≤◌, ◌<◌, [], ℕ, All, Contains, OnOk, filter, flat_map, map};
-ghost use Rattle.std.specs.List.Sorted.{IsStrictlySortedBy};
-ghost use Rattle.std.specs.Ordering.{nat_cmp};
+//! The facts that go with deleted entities.
+ghost use Rattle.std.specs.Prelude.{◌≡◌, ◌++◌, ◌≤◌, ◌<◌, [], All, OnOk, filter, flat_map, map};
 ghost use Rattle.ecs_id.specs.Id.{mentioned};
 ghost use Rattle.ecs_model.specs.Map.{keys};
 ghost use Rattle.ecs_model.specs.steps.FactChanges.{deleted, mentions_gone};
@@ -14,47 +12,40 @@ use ecs_model::FactKey;
 use rel_travel::{Graph, Scratch};
 use std::alloc::{AllocError, Allocator, Global};
 
-/// What a deletion takes. Its lists ascend.
+/// The facts that a deletion takes. Both lists ascend.
 #[derive(Drop)]
-pub struct Deletion<A: Allocator = Global> {
-    /// The entities that are deleted, by index.
-    pub dead: Vec<u32, A>,
+pub struct GoneFacts<A: Allocator = Global> {
     /// The facts of entities that stay, each of which mentions a deleted one.
     pub lost: Vec<FactKey, A>,
     /// All facts that go: these, and those of the deleted entities.
     pub went: Vec<FactKey, A>,
 }
 
-impl<A: Allocator + Copy> Deletion<A> {
+impl<A: Allocator + Copy> GoneFacts<A> {
     /// Empty lists, which take no memory.
-    pub fn new(alloc: A) -> Deletion<A>
-        ensures dead { result.dead.items ≡ [] }
+    pub fn new(alloc: A) -> GoneFacts<A>
         ensures lost { result.lost.items ≡ [] }
         ensures went { result.went.items ≡ [] }
     {
-        Deletion {
-            dead: Vec::new(alloc),
+        GoneFacts {
             lost: Vec::new(alloc),
             went: Vec::new(alloc),
         }
     }
 }
 
-impl<A: Allocator> Deletion<A> {
-    /// Lists what the deletion takes that `judge_delete` found, in place of what was listed before.
+impl<A: Allocator> GoneFacts<A> {
+    /// Lists the facts that the deletion takes that `judge_delete` found, in place of what was listed before.
     ///
     /// It takes time in the ids of the deleted entities and of those that refer to them, besides the time to sort the
     /// lists. Memory can be refused only where a list has no room.
     pub fn gather<G: Graph>(&mut self, graph: &G, scratch: &Scratch<A>) -> Result<(), AllocError>
         requires { G.size graph.now ≤ scratch.now.size }
-        ensures dead { OnOk result (OfDeletion (G.entities graph.now) (G.ids graph.now) scratch.now
-            (λ w e. self.new.dead.items ≡ keys (deleted w e))) }
         ensures lost { OnOk result (OfDeletion (G.entities graph.now) (G.ids graph.now) scratch.now
             (λ w e. self.new.lost.items ≡ filter (is_lost w e) (keys w.facts))) }
         ensures went { OnOk result (OfDeletion (G.entities graph.now) (G.ids graph.now) scratch.now
             (λ w e. self.new.went.items ≡ filter (mentions_gone w (deleted w e)) (keys w.facts))) }
     {
-        copy_in_order(scratch.found(), &mut self.dead)?;
         list_lost(graph, scratch, &mut self.lost)?;
         self.went.clear();
         append(&mut self.went, &self.lost)?;
@@ -73,18 +64,6 @@ fn append<A: Allocator>(facts: &mut Vec<FactKey, A>, more: &[FactKey]) -> Result
     if 0 < more.len() {
         facts.extend_from_slice(more)?;
     }
-    Ok(())
-}
-
-/// Makes the list that of these numbers in order, each once.
-fn copy_in_order<A: Allocator>(numbers: &[u32], ordered: &mut Vec<u32, A>) -> Result<(), AllocError>
-    ensures ascend { OnOk result (IsStrictlySortedBy nat_cmp ordered.new.items) }
-    ensures same { OnOk result ((y : ℕ) → Contains ordered.new.items y ↔ Contains numbers.now y) }
-{
-    ordered.clear();
-    ordered.extend_from_slice(numbers)?;
-    ordered.sort_unstable();
-    ordered.dedup();
     Ok(())
 }
 

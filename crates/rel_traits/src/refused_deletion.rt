@@ -1,7 +1,7 @@
 //! Why a deletion is refused.
 ghost use Rattle.std.specs.Prelude.{◌≡◌, ◌↔◌, ◌≤◌, [], ◌∷◌, ℕ, Contains, nat_lt};
 ghost use Rattle.std.specs.List.{list_any};
-ghost use Rattle.ecs_model.specs.Map.{count_at};
+ghost use Rattle.ecs_model.specs.Map.{count_at, keys};
 ghost use Rattle.ecs_model.specs.Refusal.{first_reason};
 ghost use Rattle.ecs_model.specs.steps.FactChanges.{deleted as all_deleted};
 ghost use Rattle.ecs_model.specs.steps.Step.{delete_reasons};
@@ -31,6 +31,8 @@ pub fn judge_delete<G: Holders, A: Allocator>(
     requires lives { Contains (G.entities graph.now) index }
     ensures size { scratch.new.size ≡ scratch.old.size }
     ensures found { IsDeletion (G.entities graph.now) (G.ids graph.now) scratch.new index }
+    ensures dead { OfDeletion (G.entities graph.now) (G.ids graph.now) scratch.new
+        (λ w e. (y : ℕ) → Contains scratch.new.found y ↔ Contains (keys (all_deleted w e)) y) }
     ensures judged { OfDeletion (G.entities graph.now) (G.ids graph.now) scratch.new
         (λ w e. HasCounts w pins.now.entries is_spent → result ≡ first_reason (delete_reasons w (all_deleted w e))) }
 {

@@ -7,7 +7,7 @@ use Rattle.ecs_model.specs.Refusal.{first_reason}
 use Rattle.ecs_model.specs.steps.FactChanges.{deleted}
 use Rattle.ecs_model.specs.steps.Step.{Delete, reasons, without_entities}
 use Rattle.rel_traits.specs.Deletions.{is_lost}
-use Rattle.ecs_world.specs.Changes.{deaths_of}
+use Rattle.ecs_world.specs.Changes.{entities_at, with_names}
 use Rattle.ecs_world.specs.State.{no_change}
 use Rattle.ecs_world.proofs.AcceptedCommands.{on_err, on_ok}
 use Rattle.ecs_world.proofs.CommandCounts.{counted_state, counted_world}
@@ -30,7 +30,7 @@ bury-requires-clause-judged g c =
 
 pub bury-requires-clause-dead : goal.bury-requires-clause-dead
 bury-requires-clause-dead g c =
-    ap (λ v. v.items) c.tell_deletion.ensures.dead ∙ c.in_ok-find_deletion.ensures.dead ∙ ap (λ u. keys (deleted u c.args.entity.index)) (sym (state_is c.in_ok-find_deletion.ensures.same))
+    ap (λ v. v.items) c.tell_deletion.ensures.dead ∙ c.in_ok-find_deletion.ensures.dead ∙ ap (λ u. entities_at u (keys (deleted u c.args.entity.index))) (sym (state_is c.in_ok-find_deletion.ensures.same))
 
 pub bury-requires-clause-lost : goal.bury-requires-clause-lost
 bury-requires-clause-lost g c =
@@ -56,7 +56,7 @@ returns-clause-answers g c =
     let seen = state_is c.in_ok-find_deletion.ensures.same in
     let left = state_is c.self.view_is ∙ on_ok c.bury.result c.bury.ensures.buried (sym c.is_err.ensures.value ∙ c.if-is_err.false) ∙ ap (λ u. without_entities u (deleted u c.args.entity.index)) seen ∙ sym (effect-delete c.args.self.now.state c.args.entity) in
     deletion_told c.args.self.now.state _ c.in-Ok.changes c.args.entity c.keeps.ensures c.requires.alive none (counted_state c.self.invariant c.args.self.now.state (Delete c.args.entity) left c.keeps.ensures tt none)
-    (c.in-Ok.ensures.told ∙ (λ k. record no_change { died = deaths_of (seen k) (c.in_ok-find_deletion.ensures.dead k); went = c.in_ok-find_deletion.ensures.went k }))
+    (c.in-Ok.ensures.told ∙ (λ k. record no_change { died = with_names (seen k) (c.in_ok-find_deletion.ensures.dead k); went = c.in_ok-find_deletion.ensures.went k }))
 
 pub returns-clause-stay : goal.returns-clause-stay
 returns-clause-stay g c =
@@ -66,7 +66,7 @@ returns-clause-stay g c =
     let buried_stay = on_ok c.bury.result c.bury.ensures.stay (sym c.is_err.ensures.value ∙ c.if-is_err.false) in
     going_to c.in_ok-find_deletion.ensures.same c.bury.new.self (sym (ap (λ s. s.tables) c.self.view_is))
     (deleted_stay c.args.self.now.state _ c.args.entity c.requires.alive (counted_state c.self.invariant c.args.self.now.state (Delete c.args.entity) left c.keeps.ensures tt none)
-    _ (ap (λ v. v.items) c.tell_deletion.ensures.dead ∙ c.in_ok-find_deletion.ensures.dead)
+    _ (ap (λ u. keys (deleted u c.args.entity.index)) seen)
     c.find_deletion.new.self.tables c.bury.new.self.tables buried_stay)
 
 pub returns-then-is_err-clause-stay : goal.returns-then-is_err-clause-stay

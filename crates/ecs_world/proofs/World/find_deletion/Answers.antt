@@ -1,5 +1,6 @@
 use Rattle.std.proofs.Common.{sym, ◌∙◌}
 use Rattle.ecs_world.proofs.AcceptedCommands.{on_ok}
+use Rattle.ecs_world.proofs.OrderedEntities.{dead_listed}
 use Rattle.ecs_world.proofs.SeenGraph.{alive_shown, has_counts, linked, sees}
 use Rattle.ecs_world.proofs.Standings.{state_is}
 use Rattle.ecs_world.proofs.World.find_deletion.Goals as goal
@@ -18,8 +19,10 @@ returns-in-Some-clause-refused g c =
 pub returns-clause-dead : goal.returns-clause-dead
 returns-clause-dead g c =
     let lives = alive_shown c.self.invariant c.args.entity (rw (← state_is c.self.view_is) at c.requires.alive) in
-    let tells = on_ok c.gather.result c.gather.ensures.dead (sym c.is_err-2.ensures.value ∙ c.if-is_err-2.false) in
-    rw (← state_is c.self.view_is) (tells _ c.args.entity.index (rw c.new-links.ensures (sees c.self.invariant)) (rw c.new-links.ensures lives) c.judge_delete.ensures.found)
+    let fall = c.judge_delete.ensures.dead _ c.args.entity.index (rw c.new-links.ensures (sees c.self.invariant)) (rw c.new-links.ensures lives) c.judge_delete.ensures.found in
+    let rises = on_ok c.list_entities.result c.list_entities.ensures.ascend (sym c.is_err-3.ensures.value ∙ c.if-is_err-3.false) in
+    let same = on_ok c.list_entities.result c.list_entities.ensures.same (sym c.is_err-3.ensures.value ∙ c.if-is_err-3.false) in
+    rw (← state_is c.self.view_is) (dead_listed _ c.args.entity.index _ c.found-found.result.now c.list_entities.new.entities.items c.found-found.ensures.found fall rises same)
 
 pub returns-clause-lost : goal.returns-clause-lost
 returns-clause-lost g c =

@@ -1,12 +1,6 @@
-use Rattle.rel_traits.proofs.DeletedSets.{tells_dead, tells_lost, tells_went}
+use Rattle.rel_traits.proofs.DeletedSets.{tells_lost, tells_went}
 use Rattle.rel_traits.proofs.JoinedLists.{after_none, after_copy}
-use Rattle.rel_traits.proofs.deletion.Deletion.gather.Goals as goal
-
-pub returns-clause-dead : goal.returns-clause-dead
-returns-clause-dead g c =
-    let found = c.found.ensures.found in
-    tells_dead (g.G.Graph.entities c.args.graph.now) (g.G.Graph.ids c.args.graph.now) c.args.scratch.now c.copy_in_order.new.ordered.items c.in_ok-copy_in_order.ensures.ascend
-    (λ y. rw found at (c.in_ok-copy_in_order.ensures.same y))
+use Rattle.rel_traits.proofs.deletion.GoneFacts.gather.Goals as goal
 
 pub returns-clause-lost : goal.returns-clause-lost
 returns-clause-lost g c =
