@@ -8,13 +8,11 @@ ghost use Rattle.query_meaning.specs.Standing.{IsCurrentIn};
 ghost use Rattle.query_model.specs.Query.{Query};
 
 use crate::queries::StoredQueries;
-use asking_room::AskingRoom;
 use ecs_world::{Changes, World};
 use std::alloc::{AllocError, Allocator, Global};
 use std::hash::RandomState;
 use std::marker::Model;
-use watch_events::Event;
-use watch_stored::RowsAfter;
+use watch_stored::Report;
 
 /// A world, the queries that are stored in it, and what they are yet to be notified of.
 pub struct Session<A: Allocator = Global> {
@@ -25,12 +23,8 @@ pub struct Session<A: Allocator = Global> {
     pub(crate) waiting: Option<Changes<A>>,
     /// How often a monitor was evaluated.
     pub(crate) compared: u64,
-    /// Room for the searches of monitors, of one after another.
-    pub(crate) room: AskingRoom<A>,
-    /// Room for the rows of monitors that a command moves.
-    pub(crate) rows: Vec<(usize, RowsAfter<A>), A>,
-    /// Room for the events that are written, of one command after another.
-    pub(crate) told: Vec<Event<A>, A>,
+    /// Room for what stored queries report, of one command after another.
+    pub(crate) report: Report<A>,
     pub(crate) alloc: A,
 }
 
@@ -42,9 +36,7 @@ impl<A: Allocator> Drop for Session<A> {
             stored: _,
             waiting: _,
             compared: _,
-            room: _,
-            rows: _,
-            told: _,
+            report: _,
             alloc: _,
         } = self;
     }
@@ -91,9 +83,7 @@ impl<A: Allocator + Copy> Session<A> {
             stored: StoredQueries::new(alloc, random),
             waiting: None,
             compared: 0,
-            room: AskingRoom::new(alloc),
-            rows: Vec::new(alloc),
-            told: Vec::new(alloc),
+            report: Report::new(alloc),
             alloc,
         })
     }

@@ -1,30 +1,26 @@
 //! Telling the events of a command.
 
-ghost use Rattle.std.specs.Prelude.{◌≡◌, ◌+◌, ◌<◌, ◌≤◌, [], ◌++◌, IfOk, OnErr, OnOk, All, length, map, flat_map, min};
-ghost use Rattle.std.specs.Prelude.{false, true};
-ghost use Rattle.std.specs.List.{count_by, list_any};
-ghost use Rattle.std.specs.List.Sorted.{IsStrictlyIncreasing};
+ghost use Rattle.std.specs.Prelude.{◌≡◌, ◌+◌, ◌≤◌, ◌++◌, IfOk, OnErr, OnOk, flat_map, min, false, true};
+ghost use Rattle.std.specs.List.{list_any};
 ghost use Rattle.ecs_model.specs.stored.Session.{after_events, events};
 ghost use Rattle.ecs_model.specs.stored.Watches.{event_text};
 ghost use Rattle.ecs_observe.specs.Following.{lists_of};
 ghost use Rattle.ecs_observe.specs.Lists.{KeepLists};
-ghost use Rattle.ecs_observe.specs.Parts.{ArePlaced, held_of, with_all_kept, with_kept_at};
-ghost use Rattle.watch_stored.specs.Held.{IsHeld, WasNow, is_compared, is_searched, is_taken_whole, rows_put, told_to};
+ghost use Rattle.ecs_observe.specs.Parts.{with_all_kept, with_kept_at};
+ghost use Rattle.watch_stored.specs.Held.{is_compared};
 ghost use Rattle.ecs_observe.specs.Standing.{has_searched, searched_in, session_of, taken_in};
-ghost use Rattle.ecs_observe.specs.Stored.{AreLedTo, IsStored, entries_of};
+ghost use Rattle.ecs_observe.specs.Stored.{IsStored, entries_of};
 ghost use Rattle.watch_stored.specs.Telling.{AreTouchedBy};
-ghost use Rattle.ecs_observe.specs.Telling.{any_locally_at};
+ghost use Rattle.ecs_observe.specs.Telling.{AreAllLedTo, AreListening, TellsAll, any_locally_at};
 ghost use Rattle.watch_concerns.specs.Since.{IsAfter};
 
 use crate::Session;
 use crate::queries::StoredQueries;
-use asking_room::AskingRoom;
-use ecs_world::{Changes, World};
 use query_local::Touched;
 use short_list::ShortNumbers;
 use std::alloc::{AllocError, Allocator};
 use watch_events::{Event, write_event};
-use watch_stored::{RowsAfter, tell_one};
+use watch_stored::{Effect, Listener, Report, RowsAfter, tell_one};
 use watch_touched::touched;
 
 /// For so many events at most the session keeps the room in which they were told.
@@ -51,9 +47,20 @@ impl<A: Allocator + Copy> Session<A> {
         ensures lists { lists_of self.new ≡ lists_of self.old }
         ensures world { (self.new).world ≡ (self.old).world }
     {
-        let mut told = Vec::new(self.alloc);
-        self.tell(&mut told)?;
-        Ok(told)
+        let Some(changes) = &self.waiting else {
+            return Ok(Vec::new(self.alloc));
+        };
+        self.world.keeps();
+        self.report.begin(self.compared);
+        let effect = Effect {
+            world: &self.world,
+            changes,
+        };
+        tell_led(&effect, &self.stored, &mut self.report)?;
+        put_rows(&mut self.stored, &mut self.report.rows);
+        self.waiting = None;
+        self.compared = self.report.searches.compared;
+        Ok(self.report.take_events())
     }
 
     /// Writes the lines of the events that wait after what is there, in their order, as `write_event` does one. After
@@ -74,73 +81,30 @@ impl<A: Allocator + Copy> Session<A> {
         ensures lists { lists_of self.new ≡ lists_of self.old }
         ensures world { (self.new).world ≡ (self.old).world }
     {
-        let mut counted = self.compared;
         let Some(changed) = &self.waiting else {
             return Ok(());
         };
         self.world.keeps();
-        self.rows.clear();
-        self.told.clear();
-        tell_led(
-            self.alloc,
-            &self.world,
-            changed,
-            &self.stored,
-            &mut self.room,
-            &mut self.rows,
-            &mut counted,
-            &mut self.told,
-        )?;
-        write_all(self.told.as_slice(), output)?;
-        put_rows(&mut self.stored, &mut self.rows);
+        self.report.begin(self.compared);
+        let effect = Effect {
+            world: &self.world,
+            changes: changed,
+        };
+        tell_led(&effect, &self.stored, &mut self.report)?;
+        let counted = self.report.searches.compared;
+        write_all(self.report.events.as_slice(), output)?;
+        put_rows(&mut self.stored, &mut self.report.rows);
         self.waiting = None;
         self.compared = counted;
-        keep_few(self.alloc, &mut self.told);
-        Ok(())
-    }
-
-    /// Puts the events that wait into an empty list, as `events` gives them. After that none wait.
-    fn tell(&mut self, told: &mut Vec<Event<A>, A>) -> Result<(), AllocError>
-        requires none { told.old.items ≡ [] }
-        ensures told { OnOk result (told.new.items ≡ events (session_of self.old)) }
-        ensures after { OnOk result (session_of self.new ≡ after_events (session_of self.old)) }
-        ensures refused { OnErr result (self.new ≡ self.old) }
-        ensures compared { list_any is_compared (self.old).stored ≡ false → (self.new).compared ≡ (self.old).compared }
-        ensures grows { (self.old).compared ≤ (self.new).compared }
-        ensures few { (self.new).compared ≤ (self.old).compared + searched_in self.old }
-        ensures counted { OnOk result (min ((self.old).compared + taken_in self.old) 18446744073709551615
-            ≤ (self.new).compared) }
-        ensures spared { has_searched self.old ≡ false → (self.new).compared ≡ (self.old).compared }
-        ensures lists { lists_of self.new ≡ lists_of self.old }
-        ensures world { (self.new).world ≡ (self.old).world }
-    {
-        let mut compared = self.compared;
-        let Some(changes) = &self.waiting else {
-            return Ok(());
-        };
-        self.world.keeps();
-        self.rows.clear();
-        tell_led(
-            self.alloc,
-            &self.world,
-            changes,
-            &self.stored,
-            &mut self.room,
-            &mut self.rows,
-            &mut compared,
-            told,
-        )?;
-        put_rows(&mut self.stored, &mut self.rows);
-        self.waiting = None;
-        self.compared = compared;
+        keep_few(&mut self.report.events);
         Ok(())
     }
 }
 
 /// Gives the room for events back, if more than few were told in it.
-fn keep_few<A: Allocator>(alloc: A, told: &mut Vec<Event<A>, A>) {
+fn keep_few<A: Allocator + Copy>(told: &mut Vec<Event<A>, A>) {
     if told.len() > FEW_EVENTS {
-        *told = Vec::new(alloc);
+        *told = Vec::new(*told.allocator());
     }
 }
 
@@ -154,103 +118,58 @@ fn write_all<A: Allocator>(events: &[Event<A>], output: &mut Vec<u8, A>) -> Resu
     Ok(())
 }
 
-/// Puts what all stored queries report after other events, by those that the command leads to. Gives the moves of
-/// their rows, each with the place of its query, unless they stay. Counts the whole rows taken.
+/// Puts what all stored queries report of a command after what is in a report, by those that it leads to.
 #[inline(always)]
 fn tell_led<A: Allocator + Copy>(
-    alloc: A,
-    world: &World<A>,
-    changes: &Changes<A>,
+    effect: &Effect<'_, A>,
     stored: &StoredQueries<A>,
-    room: &mut AskingRoom<A>,
-    rows: &mut Vec<(usize, RowsAfter<A>), A>,
-    compared: &mut u64,
-    events: &mut Vec<Event<A>, A>,
+    report: &mut Report<A>,
 ) -> Result<(), AllocError>
     requires stored { IsStored stored.now }
-    requires after { IsAfter world.now.state changes.now }
-    requires held { All (IsHeld world.now.state) (map held_of (entries_of stored.now)) }
-    requires was { All (WasNow world.now.state changes.now) (map held_of (entries_of stored.now)) }
-    requires none { rows.old.items ≡ [] }
-    ensures rows { OnOk result (ArePlaced (rows_put world.now.state changes.now) rows.new.items
-        (entries_of stored.now)) }
-    ensures told { OnOk result (events.new.items ≡ events.old.items
-        ++ flat_map (told_to world.now.state changes.now) (map held_of (entries_of stored.now))) }
-    ensures compared { list_any (is_searched changes.now) (map held_of (entries_of stored.now)) ≡ false
-        → compared.new ≡ compared.old }
-    ensures grows { compared.old ≤ compared.new }
-    ensures few { OnOk result (compared.new ≤ compared.old + count_by (is_searched changes.now)
-        (map held_of (entries_of stored.now))) }
-    ensures counted { OnOk result (min (compared.old + count_by (is_taken_whole changes.now)
-        (map held_of (entries_of stored.now))) 18446744073709551615
-        ≤ compared.new) }
+    requires listening { AreListening effect.now (entries_of stored.now) report.old }
+    ensures { OnOk result (TellsAll effect.now (entries_of stored.now) report.old report.new) }
 {
     let mut found = ShortNumbers::new();
-    stored.led(alloc, changes, &mut found)?;
+    stored.led(*report.events.allocator(), effect.changes, &mut found)?;
     let places = found.as_slice();
     if places.is_empty() {
-        world.keeps();
+        effect.world.keeps();
         return Ok(());
     }
-    tell_places(
-        alloc, world, changes, stored, places, room, rows, compared, events,
-    )
+    tell_places(effect, stored, places, report)
 }
 
 /// The same by those at these places.
 #[inline(never)]
 fn tell_places<A: Allocator + Copy>(
-    alloc: A,
-    world: &World<A>,
-    changes: &Changes<A>,
+    effect: &Effect<'_, A>,
     stored: &StoredQueries<A>,
     places: &[u64],
-    room: &mut AskingRoom<A>,
-    rows: &mut Vec<(usize, RowsAfter<A>), A>,
-    compared: &mut u64,
-    events: &mut Vec<Event<A>, A>,
+    report: &mut Report<A>,
 ) -> Result<(), AllocError>
-    requires after { IsAfter world.now.state changes.now }
-    requires held { All (IsHeld world.now.state) (map held_of (entries_of stored.now)) }
-    requires was { All (WasNow world.now.state changes.now) (map held_of (entries_of stored.now)) }
-    requires ascend { IsStrictlyIncreasing places.now }
-    requires within { All (λ i. i < length (entries_of stored.now)) places.now }
-    requires led { AreLedTo changes.now (entries_of stored.now) places.now }
-    requires none { rows.old.items ≡ [] }
-    ensures rows { OnOk result (ArePlaced (rows_put world.now.state changes.now) rows.new.items
-        (entries_of stored.now)) }
-    ensures told { OnOk result (events.new.items ≡ events.old.items
-        ++ flat_map (told_to world.now.state changes.now) (map held_of (entries_of stored.now))) }
-    ensures compared { list_any (is_searched changes.now) (map held_of (entries_of stored.now)) ≡ false
-        → compared.new ≡ compared.old }
-    ensures grows { compared.old ≤ compared.new }
-    ensures few { OnOk result (compared.new ≤ compared.old + count_by (is_searched changes.now)
-        (map held_of (entries_of stored.now))) }
-    ensures counted { OnOk result (min (compared.old + count_by (is_taken_whole changes.now)
-        (map held_of (entries_of stored.now))) 18446744073709551615
-        ≤ compared.new) }
+    requires listening { AreListening effect.now (entries_of stored.now) report.old }
+    requires led { AreAllLedTo effect.now.changes.now (entries_of stored.now) places.now }
+    ensures { OnOk result (TellsAll effect.now (entries_of stored.now) report.old report.new) }
 {
-    let touched = touched_if_asked(alloc, world, changes, stored, places)?;
+    let alloc = *report.events.allocator();
+    let touched = touched_if_asked(alloc, effect, stored, places)?;
     let touched = touched.as_slice();
-    tell_all(
-        alloc, world, changes, touched, stored, places, room, rows, compared, events,
-    )
+    tell_all(effect, touched, stored, places, report)
 }
 
 /// The entities that a command touched, if a monitor at one of these places is told by them, and else none.
 fn touched_if_asked<'w, A: Allocator + Copy>(
     alloc: A,
-    world: &'w World<A>,
-    changes: &Changes<A>,
+    effect: &Effect<'w, A>,
     stored: &StoredQueries<A>,
     places: &[u64],
 ) -> Result<Vec<Touched<'w, A>, A>, AllocError>
-    requires after { IsAfter world.now.state changes.now }
+    requires after { IsAfter effect.now.world.now.state effect.now.changes.now }
     ensures touched { any_locally_at (entries_of stored.now) places.now ≡ true
-        → IfOk result (λ touched. AreTouchedBy world.now.state changes.now touched.items) }
+        → IfOk result (λ touched. AreTouchedBy effect.now.world.now.state effect.now.changes.now touched.items) }
 {
     if is_told_locally_at(stored, places) {
-        touched(alloc, world, changes)
+        touched(alloc, effect.world, effect.changes)
     } else {
         Ok(Vec::new(alloc))
     }
@@ -265,49 +184,27 @@ fn is_told_locally_at<A: Allocator>(stored: &StoredQueries<A>, places: &[u64]) -
         .any(|place| stored.is_told_locally_at(*place as usize))
 }
 
-/// Puts what all stored queries report after other events, by those at these places: no other reports anything.
-/// Gives the moves of their rows, each with the place of its query, unless they stay. Counts the whole rows taken.
+/// Puts what all stored queries report of a command after what is in a report, by those at these places: no other
+/// reports anything.
 fn tell_all<A: Allocator + Copy>(
-    alloc: A,
-    world: &World<A>,
-    changes: &Changes<A>,
+    effect: &Effect<'_, A>,
     touched: &[Touched<'_, A>],
     stored: &StoredQueries<A>,
     places: &[u64],
-    room: &mut AskingRoom<A>,
-    rows: &mut Vec<(usize, RowsAfter<A>), A>,
-    compared: &mut u64,
-    events: &mut Vec<Event<A>, A>,
+    report: &mut Report<A>,
 ) -> Result<(), AllocError>
-    requires after { IsAfter world.now.state changes.now }
-    requires held { All (IsHeld world.now.state) (map held_of (entries_of stored.now)) }
-    requires was { All (WasNow world.now.state changes.now) (map held_of (entries_of stored.now)) }
+    requires listening { AreListening effect.now (entries_of stored.now) report.old }
     requires touched { any_locally_at (entries_of stored.now) places.now ≡ true
-        → AreTouchedBy world.now.state changes.now touched.now }
-    requires ascend { IsStrictlyIncreasing places.now }
-    requires within { All (λ i. i < length (entries_of stored.now)) places.now }
-    requires led { AreLedTo changes.now (entries_of stored.now) places.now }
-    requires none { rows.old.items ≡ [] }
-    ensures rows { OnOk result (ArePlaced (rows_put world.now.state changes.now) rows.new.items
-        (entries_of stored.now)) }
-    ensures told { OnOk result (events.new.items ≡ events.old.items
-        ++ flat_map (told_to world.now.state changes.now) (map held_of (entries_of stored.now))) }
-    ensures compared { list_any (is_searched changes.now) (map held_of (entries_of stored.now)) ≡ false
-        → compared.new ≡ compared.old }
-    ensures grows { compared.old ≤ compared.new }
-    ensures few { OnOk result (compared.new ≤ compared.old + count_by (is_searched changes.now)
-        (map held_of (entries_of stored.now))) }
-    ensures counted { OnOk result (min (compared.old + count_by (is_taken_whole changes.now)
-        (map held_of (entries_of stored.now))) 18446744073709551615
-        ≤ compared.new) }
+        → AreTouchedBy effect.now.world.now.state effect.now.changes.now touched.now }
+    requires led { AreAllLedTo effect.now.changes.now (entries_of stored.now) places.now }
+    ensures { OnOk result (TellsAll effect.now (entries_of stored.now) report.old report.new) }
 {
-    world.keeps();
+    effect.world.keeps();
     for place in places {
         let place = *place as usize;
         if let Some((name, query)) = stored.get_index(place) {
-            tell_one(
-                alloc, world, changes, touched, place, name, query, room, rows, compared, events,
-            )?;
+            let listener = Listener { place, name, query };
+            tell_one(effect, touched, &listener, report)?;
         }
     }
     Ok(())

@@ -23,7 +23,9 @@ use Rattle.watch_touched.specs.declared.moving.Moved.{Moved}
 use Rattle.watch_touched.specs.declared.moving.Moved.TheVariants.{Nobody}
 use Rattle.watch_touched.proofs.RisingIds.{one_list}
 use Rattle.watch_concerns.specs.Since.{IsAfter}
-use Rattle.watch_stored.specs.Moves.{IsTold, enters, is_among, leaves}
+use Rattle.watch_stored.specs.Moves.{AddsMoves, IsTold, enters, is_among, leaves, rows_now, rows_then}
+use Rattle.watch_stored.specs.declared.moves.Question.{Question}
+use Rattle.watch_stored.specs.declared.moves.RowsAfter.{RowsAfter}
 use Rattle.watch_stored.proofs.LocalMonitors.{before_ascends}
 
 among : (es : List ℕ) (e : ℕ) → is_among es e ≡ true → Contains es e
@@ -123,12 +125,23 @@ if_ok_both (Ok x) both p q = both x p q
 if_ok_both (Err e) both p q = tt
 
 -- one more entity at the end of a list, where it passes
-pub one_more : (p : ℕ → Bool) (xs : List ℕ) (k : ℕ) (start old new : List ℕ) (b : Bool) → k < length xs → old ≡ start ++ filter p (take k xs) → b ≡ p (get_or xs k 0) → new ≡ old ++ cond b (get_or xs k 0 ∷ []) []
+one_more : (p : ℕ → Bool) (xs : List ℕ) (k : ℕ) (start old new : List ℕ) (b : Bool) → k < length xs → old ≡ start ++ filter p (take k xs) → b ≡ p (get_or xs k 0) → new ≡ old ++ cond b (get_or xs k 0 ∷ []) []
     → new ≡ start ++ filter p (take (k + 1) xs)
 one_more p xs k start old new b low before is now =
     let one : List ℕ = cond b (get_or xs k 0 ∷ []) [] in
     let kept : List ℕ = filter p (take k xs) in
     now ∙ ap (λ ys. ys ++ one) before ∙ append_assoc start kept one ∙ ap (λ t. start ++ (kept ++ cond t (get_or xs k 0 ∷ []) [])) is ∙ ap (λ ys. start ++ ys) (sym (filter_more p xs k 0 low))
+
+-- one more who may have moved, in or out of the rows
+pub moves_more : {A : Type 0} (q : Question A) (moving : List ℕ) (k : ℕ) (start old new : RowsAfter A) (is : Bool) → k < length moving → AddsMoves q (take k moving) start old → is ≡ is_among (rows_now q) (get_or moving k 0)
+    → new.left.items ≡ old.left.items ++ cond (is_among (rows_then q) (get_or moving k 0) && not is) (get_or moving k 0 ∷ []) []
+    → new.entered.items ≡ old.entered.items ++ cond (is && not (is_among (rows_then q) (get_or moving k 0))) (get_or moving k 0 ∷ []) []
+    → new.these ≡ old.these → AddsMoves q (take (k + 1) moving) start new
+moves_more q moving k start old new is low so told left entered these = record {
+  left = one_more (leaves (rows_then q) (rows_now q)) moving k start.left.items old.left.items new.left.items _ low so.left (λ i. is_among (rows_then q) (get_or moving k 0) && not (told i)) left;
+  entered = one_more (enters (rows_then q) (rows_now q)) moving k start.entered.items old.entered.items new.entered.items _ low so.entered (λ i. told i && not (is_among (rows_then q) (get_or moving k 0))) entered;
+  these = these ∙ so.these;
+}
 
 -- where an entity may have moved, a command concerns the query
 pub is_somebody : (concerned : Bool) (moved : Moved) → (concerned ≡ false → moved ≡ Nobody) → (moved ≡ Nobody → ⊥) → true ≡ concerned

@@ -5,19 +5,22 @@
 //! let mut stored = stored_query(alloc, &world, kind, query, &mut compared)?;
 //!
 //! // after a command: its events, and the moves of its rows after those of others, if they don't stay
-//! let told = &mut events;
-//! tell_one(alloc, &world, &changes, &touched, place, &name, &stored, &mut room, &mut rows, &mut compared, told)?;
-//! stored.keep(&mut rows[0].1);
+//! let effect = Effect { world: &world, changes: &changes };
+//! let listener = Listener { place, name: &name, query: &stored };
+//! tell_one(&effect, &touched, &listener, &mut report)?;
+//! stored.keep(&mut report.rows[0].1);
 //! ```
 #![tactic(auto)]
 
 mod asking;
 mod moves;
+mod report;
 mod stored;
 mod telling;
 mod watched;
 
 pub use moves::RowsAfter;
+pub use report::{Effect, Listener, Report, Searches};
 pub use stored::{JudgedPlan, StoredQuery, is_outgrown, is_told};
 pub use telling::tell_one;
 pub use watched::{newest_table, stored_query};

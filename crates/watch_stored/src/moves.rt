@@ -4,8 +4,9 @@ ghost use Rattle.std.specs.Prelude.{◌≡◌, ℕ, ◌+◌, ◌≤◌, ◌&&◌
 ghost use Rattle.std.specs.Prelude.{not, true, if◌then◌else◌};
 ghost use Rattle.std.specs.List.Sorted.{IsStrictlyIncreasing};
 ghost use Rattle.ecs_model.specs.rows.View.{view_of};
-ghost use Rattle.ecs_model.specs.stored.Watches.{matching, missing_from};
-ghost use Rattle.watch_stored.specs.Moves.{AreNoMoves, IsTold, enters, is_among, is_untold, leaves};
+ghost use Rattle.ecs_model.specs.stored.Watches.{matching};
+ghost use Rattle.watch_stored.specs.Moves.{AddsMoves, AreMovesTo, AreNoMoves, CanBeAsked, IsTold, is_among, is_untold};
+ghost use Rattle.watch_stored.specs.Moves.{rows_now, rows_then};
 ghost use Rattle.query_meaning.specs.Sound.{IsSound};
 ghost use Rattle.watch_stored.specs.Parts.{kept_rows};
 ghost use Rattle.query_meaning.specs.Standing.{IsCurrentIn};
@@ -15,10 +16,11 @@ ghost use Rattle.watch_touched.specs.Moving.{finds_moving};
 ghost use Rattle.watch_concerns.specs.Since.{IsAfter};
 
 use crate::asking::{found_among, is_found};
-use crate::stored::{JudgedPlan, StoredQuery};
+use crate::report::{Effect, Searches};
+use crate::stored::StoredQuery;
 use crate::watched::whole_rows;
 use asking_room::AskingRoom;
-use ecs_world::{Changes, World};
+use ecs_world::World;
 use entity_set::EntitySet;
 use short_list::ShortList;
 use std::alloc::{AllocError, Allocator};
@@ -52,50 +54,61 @@ impl<A: Allocator> RowsAfter<A> {
     }
 }
 
+/// A monitor's query, asked who is in its rows in a world.
+#[derive(Drop)]
+struct Question<'q, A: Allocator> {
+    alloc: A,
+    world: &'q World<A>,
+    query: &'q StoredQuery<A>,
+}
+
 /// Whether a command concerns the query of a monitor that isn't local; and if so, its moves are put in the place of
 /// none. Where all who may have moved are found, their ids or a search tell who of them is in the rows; else all rows
 /// are taken, counted, and compared. The room for searches is for any queries, one after another.
 ///
 /// Fails where memory is refused.
 pub(crate) fn rows_after<A: Allocator + Copy>(
-    alloc: A,
-    world: &World<A>,
-    changes: &Changes<A>,
+    effect: &Effect<'_, A>,
     query: &StoredQuery<A>,
-    room: &mut AskingRoom<A>,
-    compared: &mut u64,
+    searches: &mut Searches<A>,
     rows: &mut RowsAfter<A>,
 ) -> Result<bool, AllocError>
-    requires after { IsAfter world.now.state changes.now }
-    requires current { IsCurrentIn world.now.state (query.now.plan).query }
-    requires was { query.now.these.items ≡ matching (view_before world.now.state changes.now) (query.now.plan).query }
+    requires after { IsAfter effect.now.world.now.state effect.now.changes.now }
+    requires current { IsCurrentIn effect.now.world.now.state (query.now.plan).query }
+    requires was { query.now.these.items
+        ≡ matching (view_before effect.now.world.now.state effect.now.changes.now) (query.now.plan).query }
     requires none { AreNoMoves rows.old }
-    ensures concerned { IfOk result (λ concerned. concerned ≡ is_concerned (query.now.plan).query changes.now) }
-    ensures left { IfOk result (λ concerned. concerned ≡ true → rows.new.left.items
-        ≡ missing_from query.now.these.items (matching (view_of world.now.state) (query.now.plan).query)) }
-    ensures entered { IfOk result (λ concerned. concerned ≡ true
-        → rows.new.entered.items ≡ missing_from (matching (view_of world.now.state) (query.now.plan).query)
-        query.now.these.items) }
-    ensures these { IfOk result (λ concerned. concerned ≡ true → (kept_rows rows.new query.now.these).items
-        ≡ matching (view_of world.now.state) (query.now.plan).query) }
-    ensures compared { is_concerned (query.now.plan).query changes.now ≡ false → compared.new ≡ compared.old }
-    ensures counted { finds_moving (query.now.plan).query changes.now ≡ false
-        → is_concerned (query.now.plan).query changes.now ≡ true
-        → OnOk result (compared.new ≡ min (compared.old + 1) 18446744073709551615) }
-    ensures grows { compared.old ≤ compared.new }
-    ensures few { compared.new ≤ compared.old + 1 }
+    ensures concerned { IfOk result (λ concerned. concerned
+        ≡ is_concerned (query.now.plan).query effect.now.changes.now) }
+    ensures moves { IfOk result (λ concerned. concerned ≡ true → AreMovesTo query.now.these
+        (matching (view_of effect.now.world.now.state) (query.now.plan).query) rows.new) }
+    ensures compared { is_concerned (query.now.plan).query effect.now.changes.now ≡ false
+        → searches.new.compared ≡ searches.old.compared }
+    ensures counted { finds_moving (query.now.plan).query effect.now.changes.now ≡ false
+        → is_concerned (query.now.plan).query effect.now.changes.now ≡ true
+        → OnOk result (searches.new.compared ≡ min (searches.old.compared + 1) 18446744073709551615) }
+    ensures grows { searches.old.compared ≤ searches.new.compared }
+    ensures few { searches.new.compared ≤ searches.old.compared + 1 }
 {
+    let alloc = searches.alloc;
+    let world = effect.world;
+    let question = Question {
+        alloc,
+        world,
+        query,
+    };
     let mut moving = ShortList::new();
     let asked = query.plan.asked();
     let bonds = query.plan.bonds();
-    match who_may_have_moved(alloc, world, changes, &asked, bonds, &mut moving)? {
+    match who_may_have_moved(alloc, world, effect.changes, &asked, bonds, &mut moving)? {
         Moved::Nobody => Ok(false),
         Moved::Few => {
-            rows_by_asking(alloc, world, query, room, moving.as_slice(), rows)?;
+            let room = &mut searches.room;
+            rows_by_asking(&question, room, moving.as_slice(), rows)?;
             Ok(true)
         }
         Moved::Unknown => {
-            rows_by_all(alloc, world, query, compared, rows)?;
+            rows_by_all(&question, &mut searches.compared, rows)?;
             Ok(true)
         }
     }
@@ -103,133 +116,98 @@ pub(crate) fn rows_after<A: Allocator + Copy>(
 
 /// The rows where those who may have moved are told.
 fn rows_by_asking<A: Allocator + Copy>(
-    alloc: A,
-    world: &World<A>,
-    query: &StoredQuery<A>,
+    question: &Question<'_, A>,
     room: &mut AskingRoom<A>,
     moving: &[u32],
     rows: &mut RowsAfter<A>,
 ) -> Result<(), AllocError>
-    requires current { IsCurrentIn world.now.state (query.now.plan).query }
-    requires ascends { IsStrictlyIncreasing query.now.these.items }
-    requires told { IsTold (query.now.plan).query world.now.state query.now.these.items moving.now }
+    requires current { CanBeAsked question.now }
+    requires ascends { IsStrictlyIncreasing (rows_then question.now) }
+    requires told { IsTold (question.now.query.now.plan).query question.now.world.now.state (rows_then question.now)
+        moving.now }
     requires none { AreNoMoves rows.old }
-    ensures left { OnOk result (rows.new.left.items ≡ missing_from query.now.these.items
-        (matching (view_of world.now.state) (query.now.plan).query)) }
-    ensures entered { OnOk result (rows.new.entered.items ≡ missing_from
-        (matching (view_of world.now.state) (query.now.plan).query) query.now.these.items) }
-    ensures these { OnOk result ((kept_rows rows.new query.now.these).items
-        ≡ matching (view_of world.now.state) (query.now.plan).query) }
+    ensures { OnOk result (AreMovesTo question.now.query.now.these (rows_now question.now) rows.new) }
 {
-    world.keeps();
-    push_moves(
-        alloc,
-        world,
-        query,
-        room,
-        moving,
-        &mut rows.left,
-        &mut rows.entered,
-    )?;
-    fill_set(alloc, &query.these, rows)?;
+    question.world.keeps();
+    push_moves(question, room, moving, rows)?;
+    fill_set(question.alloc, &question.query.these, rows)?;
     Ok(())
 }
 
 /// Adds, of ascending entities, those who are in the rows no more, and those who are in them now.
 fn push_moves<A: Allocator + Copy>(
-    alloc: A,
-    world: &World<A>,
-    query: &StoredQuery<A>,
+    question: &Question<'_, A>,
     room: &mut AskingRoom<A>,
     moving: &[u32],
-    left: &mut ShortList<A>,
-    entered: &mut ShortList<A>,
+    rows: &mut RowsAfter<A>,
 ) -> Result<(), AllocError>
-    requires current { IsCurrentIn world.now.state (query.now.plan).query }
+    requires current { CanBeAsked question.now }
     requires ascend { IsStrictlyIncreasing moving.now }
-    ensures left { OnOk result (left.new.items ≡ left.old.items
-        ++ filter (leaves query.now.these.items (matching (view_of world.now.state) (query.now.plan).query))
-        moving.now) }
-    ensures entered { OnOk result (entered.new.items ≡ entered.old.items
-        ++ filter (enters query.now.these.items (matching (view_of world.now.state) (query.now.plan).query))
-        moving.now) }
+    ensures { OnOk result (AddsMoves question.now moving.now rows.old rows.new) }
 {
     if moving.len() <= FEW {
-        return push_each(alloc, world, query, room, moving, left, entered);
+        return push_each(question, room, moving, rows);
     }
-    push_searched(alloc, world, query, room, moving, left, entered)
+    push_searched(question, room, moving, rows)
 }
 
 /// The same, where each is asked by itself.
 fn push_each<A: Allocator + Copy>(
-    alloc: A,
-    world: &World<A>,
-    query: &StoredQuery<A>,
+    question: &Question<'_, A>,
     room: &mut AskingRoom<A>,
     moving: &[u32],
-    left: &mut ShortList<A>,
-    entered: &mut ShortList<A>,
+    rows: &mut RowsAfter<A>,
 ) -> Result<(), AllocError>
-    requires current { IsCurrentIn world.now.state (query.now.plan).query }
-    ensures left { OnOk result (left.new.items ≡ left.old.items
-        ++ filter (leaves query.now.these.items (matching (view_of world.now.state) (query.now.plan).query))
-        moving.now) }
-    ensures entered { OnOk result (entered.new.items ≡ entered.old.items
-        ++ filter (enters query.now.these.items (matching (view_of world.now.state) (query.now.plan).query))
-        moving.now) }
+    requires current { CanBeAsked question.now }
+    ensures { OnOk result (AddsMoves question.now moving.now rows.old rows.new) }
 {
     for entity in moving {
-        let is = is_in_rows(alloc, world, &query.plan, room, *entity)?;
-        push_move(alloc, &query.these, *entity, is, left, entered)?;
+        let is = is_in_rows(question, room, *entity)?;
+        push_move(question, *entity, is, rows)?;
     }
     Ok(())
 }
 
 /// Whether an entity is in the rows of a query: its ids tell it, or else it is asked.
 fn is_in_rows<A: Allocator + Copy>(
-    alloc: A,
-    world: &World<A>,
-    plan: &JudgedPlan<A>,
+    question: &Question<'_, A>,
     room: &mut AskingRoom<A>,
     entity: u32,
 ) -> Result<bool, AllocError>
-    requires current { IsCurrentIn world.now.state (plan.now).query }
-    ensures { IfOk result (λ is. is ≡ is_among (matching (view_of world.now.state) (plan.now).query) entity) }
+    requires current { CanBeAsked question.now }
+    ensures { IfOk result (λ is. is ≡ is_among (rows_now question.now) entity) }
 {
+    let world = question.world;
+    let plan = &question.query.plan;
     match told_by_ids(&plan.asked(), world, entity) {
         Some(is) => Ok(is),
-        None => is_found(alloc, world, plan, room, entity),
+        None => is_found(question.alloc, world, plan, room, entity),
     }
 }
 
 /// The same, where those whose ids don't tell are asked together.
 #[inline(never)]
 fn push_searched<A: Allocator + Copy>(
-    alloc: A,
-    world: &World<A>,
-    query: &StoredQuery<A>,
+    question: &Question<'_, A>,
     room: &mut AskingRoom<A>,
     moving: &[u32],
-    left: &mut ShortList<A>,
-    entered: &mut ShortList<A>,
+    rows: &mut RowsAfter<A>,
 ) -> Result<(), AllocError>
-    requires current { IsCurrentIn world.now.state (query.now.plan).query }
+    requires current { CanBeAsked question.now }
     requires ascend { IsStrictlyIncreasing moving.now }
-    ensures left { OnOk result (left.new.items ≡ left.old.items
-        ++ filter (leaves query.now.these.items (matching (view_of world.now.state) (query.now.plan).query))
-        moving.now) }
-    ensures entered { OnOk result (entered.new.items ≡ entered.old.items
-        ++ filter (enters query.now.these.items (matching (view_of world.now.state) (query.now.plan).query))
-        moving.now) }
+    ensures { OnOk result (AddsMoves question.now moving.now rows.old rows.new) }
 {
-    let asked = query.plan.asked();
+    let alloc = question.alloc;
+    let world = question.world;
+    let plan = &question.query.plan;
+    let asked = plan.asked();
     let mut untold = ShortList::new();
     push_untold(alloc, world, &asked, moving, &mut untold)?;
-    let found = found_among(alloc, world, &query.plan, room, untold.as_slice())?;
+    let found = found_among(alloc, world, plan, room, untold.as_slice())?;
     let found = found.as_slice();
     for entity in moving {
         let is = is_told_or_found(world, &asked, found, *entity);
-        push_move(alloc, &query.these, *entity, is, left, entered)?;
+        push_move(question, *entity, is, rows)?;
     }
     Ok(())
 }
@@ -277,21 +255,20 @@ fn is_told_or_found<A: Allocator>(
 /// and is.
 #[inline(always)]
 fn push_move<A: Allocator + Copy>(
-    alloc: A,
-    before: &EntitySet<A>,
+    question: &Question<'_, A>,
     entity: u32,
     is: bool,
-    left: &mut ShortList<A>,
-    entered: &mut ShortList<A>,
+    rows: &mut RowsAfter<A>,
 ) -> Result<(), AllocError>
-    ensures left { OnOk result (left.new.items ≡ left.old.items
-        ++ (if is_among before.now.items entity && not is then entity ∷ [] else [])) }
-    ensures entered { OnOk result (entered.new.items ≡ entered.old.items
-        ++ (if is && not (is_among before.now.items entity) then entity ∷ [] else [])) }
+    ensures left { OnOk result (rows.new.left.items ≡ rows.old.left.items
+        ++ (if is_among (rows_then question.now) entity && not is then entity ∷ [] else [])) }
+    ensures entered { OnOk result (rows.new.entered.items ≡ rows.old.entered.items
+        ++ (if is && not (is_among (rows_then question.now) entity) then entity ∷ [] else [])) }
+    ensures these { rows.new.these ≡ rows.old.these }
 {
-    let was = before.contains(entity);
-    push_if(alloc, was & !is, entity, left)?;
-    push_if(alloc, is & !was, entity, entered)
+    let was = question.query.these.contains(entity);
+    push_if(question.alloc, was & !is, entity, &mut rows.left)?;
+    push_if(question.alloc, is & !was, entity, &mut rows.entered)
 }
 
 #[inline(always)]
@@ -344,25 +321,20 @@ fn fill_set<A: Allocator + Copy>(
 /// The rows where all are taken.
 #[inline(never)]
 fn rows_by_all<A: Allocator + Copy>(
-    alloc: A,
-    world: &World<A>,
-    query: &StoredQuery<A>,
+    question: &Question<'_, A>,
     compared: &mut u64,
     rows: &mut RowsAfter<A>,
 ) -> Result<(), AllocError>
-    requires current { IsCurrentIn world.now.state (query.now.plan).query }
-    ensures left { OnOk result (rows.new.left.items ≡ missing_from query.now.these.items
-        (matching (view_of world.now.state) (query.now.plan).query)) }
-    ensures entered { OnOk result (rows.new.entered.items ≡ missing_from
-        (matching (view_of world.now.state) (query.now.plan).query) query.now.these.items) }
-    ensures these { OnOk result ((kept_rows rows.new query.now.these).items
-        ≡ matching (view_of world.now.state) (query.now.plan).query) }
+    requires current { CanBeAsked question.now }
+    ensures moves { OnOk result (AreMovesTo question.now.query.now.these (rows_now question.now) rows.new) }
     ensures counted { compared.new ≡ min (compared.old + 1) 18446744073709551615 }
     ensures grows { compared.old ≤ compared.new }
 {
-    let these = whole_rows(alloc, world, &query.plan, compared)?;
-    let left = query.these.without(alloc, &these)?;
-    let entered = these.without(alloc, &query.these)?;
+    let alloc = question.alloc;
+    let before = &question.query.these;
+    let these = whole_rows(alloc, question.world, &question.query.plan, compared)?;
+    let left = before.without(alloc, &these)?;
+    let entered = these.without(alloc, before)?;
     rows.left = ShortList::from_vec(left);
     rows.entered = ShortList::from_vec(entered);
     rows.these = Some(these);

@@ -1,80 +1,57 @@
 //! What one stored query reports of a command.
 
-ghost use Rattle.std.specs.Prelude.{◌≡◌, ◌+◌, ◌≤◌, ◌++◌, IfOk, OnErr, OnOk, false, min, true};
-ghost use Rattle.std.specs.String.{string_bytes};
-ghost use Rattle.ecs_print.specs.Stops.{StopsWithin};
+ghost use Rattle.std.specs.Prelude.{◌≡◌, ◌+◌, OnOk, IfOk, false, min, true};
 ghost use Rattle.watch_stored.specs.Moves.{AreNoMoves};
-ghost use Rattle.watch_stored.specs.Parts.{IsPut, held_as, put_in};
-ghost use Rattle.watch_stored.specs.Held.{IsHeld, WasNow, is_compared, is_monitor, is_searched, is_taken_whole};
-ghost use Rattle.watch_stored.specs.Held.{is_told_locally, rows_put, told_to};
-ghost use Rattle.watch_stored.specs.Telling.{AreTouchedBy};
-ghost use Rattle.watch_concerns.specs.Since.{IsAfter};
+ghost use Rattle.watch_stored.specs.Parts.{IsPut, put_in};
+ghost use Rattle.watch_stored.specs.Held.{is_compared, is_monitor, is_taken_whole, is_told_locally, rows_put};
+ghost use Rattle.watch_stored.specs.Telling.{AreTouchedBy, CountsWholeRows, IsListening, TellsListener, held_by};
 
 use crate::moves::{RowsAfter, rows_after};
-use crate::stored::StoredQuery;
-use asking_room::AskingRoom;
-use ecs_world::{Changes, World};
+use crate::report::{Effect, Listener, Report, Searches};
 use query_local::{Touched, local_told};
 use std::alloc::{AllocError, Allocator};
 use watch_events::{Audience, Event, Moves, may_tell, tell, tell_moves};
 
-/// Puts what the stored query at a place reports after other events, and after those of others the moves of its rows,
-/// unless they stay. Counts the whole rows taken.
+/// Puts what a stored query reports after other events, and after those of others the moves of its rows, unless they
+/// stay. Counts the whole rows taken.
 ///
 /// Fails where memory is refused, and then the first of these events may stand after the others.
 pub fn tell_one<A: Allocator + Copy>(
-    alloc: A,
-    world: &World<A>,
-    changes: &Changes<A>,
+    effect: &Effect<'_, A>,
     touched: &[Touched<'_, A>],
-    place: usize,
-    name: &String<A>,
-    query: &StoredQuery<A>,
-    room: &mut AskingRoom<A>,
-    rows: &mut Vec<(usize, RowsAfter<A>), A>,
-    compared: &mut u64,
-    events: &mut Vec<Event<A>, A>,
+    listener: &Listener<'_, A>,
+    report: &mut Report<A>,
 ) -> Result<(), AllocError>
-    requires after { IsAfter world.now.state changes.now }
-    requires held { IsHeld world.now.state (held_as (string_bytes name.now) query.now) }
-    requires was { WasNow world.now.state changes.now (held_as (string_bytes name.now) query.now) }
-    requires touched { is_told_locally (held_as (string_bytes name.now) query.now) ≡ true
-        → AreTouchedBy world.now.state changes.now touched.now }
-    ensures rows { OnOk result (IsPut (rows_put world.now.state changes.now (held_as (string_bytes name.now) query.now))
-        place query.now rows.old.items
-        rows.new.items) }
-    ensures told { OnOk result (events.new.items ≡ events.old.items
-        ++ told_to world.now.state changes.now (held_as (string_bytes name.now) query.now)) }
-    ensures front { OnErr result (StopsWithin events.old.items events.new.items
-        (told_to world.now.state changes.now (held_as (string_bytes name.now) query.now))) }
-    ensures compared { is_searched changes.now (held_as (string_bytes name.now) query.now) ≡ false
-        → compared.new ≡ compared.old }
-    ensures counted { is_taken_whole changes.now (held_as (string_bytes name.now) query.now) ≡ true
-        → OnOk result (compared.new ≡ min (compared.old + 1) 18446744073709551615) }
-    ensures grows { compared.old ≤ compared.new }
-    ensures few { compared.new ≤ compared.old + 1 }
+    requires listening { IsListening effect.now listener.now }
+    requires touched { is_told_locally (held_by listener.now) ≡ true
+        → AreTouchedBy effect.now.world.now.state effect.now.changes.now touched.now }
+    ensures rows { OnOk result (IsPut
+        (rows_put effect.now.world.now.state effect.now.changes.now (held_by listener.now))
+        listener.now.place listener.now.query.now report.old.rows.items report.new.rows.items) }
+    ensures told { TellsListener effect.now listener.now result report.old.events.items report.new.events.items }
+    ensures counted { CountsWholeRows effect.now listener.now
+        report.old.searches.compared report.new.searches.compared }
+    ensures taken { is_taken_whole effect.now.changes.now (held_by listener.now) ≡ true
+        → OnOk result (report.new.searches.compared
+        ≡ min (report.old.searches.compared + 1) 18446744073709551615) }
 {
-    if !query.is_compared() {
-        return tell_uncompared(alloc, world, changes, touched, name, query, events);
+    if !listener.query.is_compared() {
+        return tell_uncompared(effect, touched, listener, &mut report.events);
     }
     // the moves are made where they are kept
-    rows.push((place, RowsAfter::new()))?;
-    let last = rows.len() - 1;
+    report.rows.push((listener.place, RowsAfter::new()))?;
+    let last = report.rows.len() - 1;
     let put = tell_compared(
-        alloc,
-        world,
-        changes,
-        name,
-        query,
-        room,
-        compared,
-        events,
-        &mut rows[last].1,
+        effect,
+        listener,
+        &mut report.searches,
+        &mut report.events,
+        &mut report.rows[last].1,
     )?;
     if put {
         return Ok(());
     }
-    rows.pop();
+    report.rows.pop();
     Ok(())
 }
 
@@ -83,30 +60,25 @@ pub fn tell_one<A: Allocator + Copy>(
 ///
 /// Fails where memory is refused, and then the first of these events may stand after the others.
 fn tell_uncompared<A: Allocator + Copy>(
-    alloc: A,
-    world: &World<A>,
-    changes: &Changes<A>,
+    effect: &Effect<'_, A>,
     touched: &[Touched<'_, A>],
-    name: &String<A>,
-    query: &StoredQuery<A>,
+    listener: &Listener<'_, A>,
     events: &mut Vec<Event<A>, A>,
 ) -> Result<(), AllocError>
-    requires after { IsAfter world.now.state changes.now }
-    requires uncompared { is_compared (held_as (string_bytes name.now) query.now) ≡ false }
-    requires touched { is_told_locally (held_as (string_bytes name.now) query.now) ≡ true
-        → AreTouchedBy world.now.state changes.now touched.now }
-    ensures told { OnOk result (events.new.items ≡ events.old.items
-        ++ told_to world.now.state changes.now (held_as (string_bytes name.now) query.now)) }
-    ensures front { OnErr result (StopsWithin events.old.items events.new.items
-        (told_to world.now.state changes.now (held_as (string_bytes name.now) query.now))) }
+    requires listening { IsListening effect.now listener.now }
+    requires uncompared { is_compared (held_by listener.now) ≡ false }
+    requires touched { is_told_locally (held_by listener.now) ≡ true
+        → AreTouchedBy effect.now.world.now.state effect.now.changes.now touched.now }
+    ensures { TellsListener effect.now listener.now result events.old.items events.new.items }
 {
-    if !may_tell(query.kind, query.plan.query(), changes) {
+    let query = listener.query;
+    if !may_tell(query.kind, query.plan.query(), effect.changes) {
         return Ok(());
     }
     if query.is_told_locally() {
-        return tell_locally(alloc, world, changes, touched, name, query, events);
+        return tell_locally(effect, touched, listener, events);
     }
-    tell_observer(alloc, world, changes, name, query, events)
+    tell_observer(effect, listener, events)
 }
 
 /// Puts what a monitor whose query isn't local reports after other events, and answers whether the moves of its rows
@@ -114,93 +86,80 @@ fn tell_uncompared<A: Allocator + Copy>(
 ///
 /// Fails where memory is refused, and then the first of these events may stand after the others.
 fn tell_compared<A: Allocator + Copy>(
-    alloc: A,
-    world: &World<A>,
-    changes: &Changes<A>,
-    name: &String<A>,
-    query: &StoredQuery<A>,
-    room: &mut AskingRoom<A>,
-    compared: &mut u64,
+    effect: &Effect<'_, A>,
+    listener: &Listener<'_, A>,
+    searches: &mut Searches<A>,
     events: &mut Vec<Event<A>, A>,
     rows: &mut RowsAfter<A>,
 ) -> Result<bool, AllocError>
-    requires after { IsAfter world.now.state changes.now }
-    requires held { IsHeld world.now.state (held_as (string_bytes name.now) query.now) }
-    requires was { WasNow world.now.state changes.now (held_as (string_bytes name.now) query.now) }
-    requires compared { is_compared (held_as (string_bytes name.now) query.now) ≡ true }
+    requires listening { IsListening effect.now listener.now }
+    requires compared { is_compared (held_by listener.now) ≡ true }
     requires none { AreNoMoves rows.old }
-    ensures rows { IfOk result (λ put. put_in put rows.new query.now.these
-        ≡ rows_put world.now.state changes.now (held_as (string_bytes name.now) query.now)) }
-    ensures told { OnOk result (events.new.items ≡ events.old.items
-        ++ told_to world.now.state changes.now (held_as (string_bytes name.now) query.now)) }
-    ensures front { OnErr result (StopsWithin events.old.items events.new.items
-        (told_to world.now.state changes.now (held_as (string_bytes name.now) query.now))) }
-    ensures compared { is_searched changes.now (held_as (string_bytes name.now) query.now) ≡ false
-        → compared.new ≡ compared.old }
-    ensures counted { is_taken_whole changes.now (held_as (string_bytes name.now) query.now) ≡ true
-        → OnOk result (compared.new ≡ min (compared.old + 1) 18446744073709551615) }
-    ensures grows { compared.old ≤ compared.new }
-    ensures few { compared.new ≤ compared.old + 1 }
+    ensures rows { IfOk result (λ put. put_in put rows.new listener.now.query.now.these
+        ≡ rows_put effect.now.world.now.state effect.now.changes.now (held_by listener.now)) }
+    ensures told { TellsListener effect.now listener.now result events.old.items events.new.items }
+    ensures counted { CountsWholeRows effect.now listener.now searches.old.compared searches.new.compared }
+    ensures taken { is_taken_whole effect.now.changes.now (held_by listener.now) ≡ true
+        → OnOk result (searches.new.compared ≡ min (searches.old.compared + 1) 18446744073709551615) }
 {
-    world.keeps();
-    if !rows_after(alloc, world, changes, query, room, compared, rows)? {
+    effect.world.keeps();
+    if !rows_after(effect, listener.query, searches, rows)? {
         return Ok(false);
     }
     let moves = Moves {
         left: rows.left.as_slice(),
         entered: rows.entered.as_slice(),
     };
-    tell_moves(alloc, world, changes, name.as_bytes(), moves, events)?;
+    let name = listener.name.as_bytes();
+    tell_moves(
+        searches.alloc,
+        effect.world,
+        effect.changes,
+        name,
+        moves,
+        events,
+    )?;
     Ok(true)
 }
 
 /// Puts what an event observer reports after other events.
 fn tell_observer<A: Allocator + Copy>(
-    alloc: A,
-    world: &World<A>,
-    changes: &Changes<A>,
-    name: &String<A>,
-    query: &StoredQuery<A>,
+    effect: &Effect<'_, A>,
+    listener: &Listener<'_, A>,
     events: &mut Vec<Event<A>, A>,
 ) -> Result<(), AllocError>
-    requires after { IsAfter world.now.state changes.now }
-    requires observes { is_monitor query.now.kind ≡ false }
-    ensures told { OnOk result (events.new.items ≡ events.old.items
-        ++ told_to world.now.state changes.now (held_as (string_bytes name.now) query.now)) }
-    ensures front { OnErr result (StopsWithin events.old.items events.new.items
-        (told_to world.now.state changes.now (held_as (string_bytes name.now) query.now))) }
+    requires listening { IsListening effect.now listener.now }
+    requires observes { is_monitor listener.now.query.now.kind ≡ false }
+    ensures { TellsListener effect.now listener.now result events.old.items events.new.items }
 {
+    let alloc = *events.allocator();
     let audience = Audience {
-        name: name.as_bytes(),
-        kind: query.kind,
-        query: query.plan.query(),
+        name: listener.name.as_bytes(),
+        kind: listener.query.kind,
+        query: listener.query.plan.query(),
     };
-    tell(alloc, world, changes, audience, events)
+    tell(alloc, effect.world, effect.changes, audience, events)
 }
 
 /// Puts what a monitor of a local query reports after other events, by the entities that the command touched.
 fn tell_locally<A: Allocator + Copy>(
-    alloc: A,
-    world: &World<A>,
-    changes: &Changes<A>,
+    effect: &Effect<'_, A>,
     touched: &[Touched<'_, A>],
-    name: &String<A>,
-    query: &StoredQuery<A>,
+    listener: &Listener<'_, A>,
     events: &mut Vec<Event<A>, A>,
 ) -> Result<(), AllocError>
-    requires after { IsAfter world.now.state changes.now }
-    requires local { is_told_locally (held_as (string_bytes name.now) query.now) ≡ true }
-    requires touched { AreTouchedBy world.now.state changes.now touched.now }
-    ensures told { OnOk result (events.new.items ≡ events.old.items
-        ++ told_to world.now.state changes.now (held_as (string_bytes name.now) query.now)) }
-    ensures front { OnErr result (StopsWithin events.old.items events.new.items
-        (told_to world.now.state changes.now (held_as (string_bytes name.now) query.now))) }
+    requires listening { IsListening effect.now listener.now }
+    requires local { is_told_locally (held_by listener.now) ≡ true }
+    requires touched { AreTouchedBy effect.now.world.now.state effect.now.changes.now touched.now }
+    ensures { TellsListener effect.now listener.now result events.old.items events.new.items }
 {
-    world.keeps();
-    let told = local_told(alloc, query.plan.query(), touched)?;
+    let alloc = *events.allocator();
+    effect.world.keeps();
+    let told = local_told(alloc, listener.query.plan.query(), touched)?;
     let moves = Moves {
         left: told.left.as_slice(),
         entered: told.entered.as_slice(),
     };
-    tell_moves(alloc, world, changes, name.as_bytes(), moves, events)
+    let name = listener.name.as_bytes();
+    tell_moves(alloc, effect.world, effect.changes, name, moves, events)
 }

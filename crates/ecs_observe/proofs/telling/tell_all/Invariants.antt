@@ -8,9 +8,14 @@ use Rattle.ecs_observe.proofs.PassedPlaces.{AreToldTo}
 use Rattle.ecs_observe.proofs.telling.tell_all.Given as goal
 
 abbrev pub invariant-loop-place : goal.invariant-loop-place
-invariant-loop-place g l = record {
-  told : AreToldTo (told_to l.world.state l.changes) (rows_put l.world.state l.changes) (map held_of (entries_of l.stored)) l.initial.events.items
-      (AreDoneUpTo (rows_put l.world.state l.changes) (is_searched l.changes) (is_taken_whole l.changes) (entries_of l.stored) l.initial.compared) l.places l.place-index l.events.items (l.rows.items, l.compared);
-  compared : list_any (is_searched l.changes) (map held_of (entries_of l.stored)) ≡ false → l.compared ≡ l.initial.compared;
-  grows : l.initial.compared ≤ l.compared;
-}
+invariant-loop-place g l =
+    let w = l.effect.world.now.state in
+    let changed = l.effect.changes.now in
+    let es = entries_of l.stored in
+    let before = l.initial.report in
+    record {
+      told : AreToldTo (told_to w changed) (rows_put w changed) (map held_of es) before.events.items
+          (AreDoneUpTo (rows_put w changed) (is_searched changed) (is_taken_whole changed) es before.searches.compared) l.places l.place-index l.report.events.items (l.report.rows.items, l.report.searches.compared);
+      spared : list_any (is_searched changed) (map held_of es) ≡ false → l.report.searches.compared ≡ before.searches.compared;
+      grows : before.searches.compared ≤ l.report.searches.compared;
+    }

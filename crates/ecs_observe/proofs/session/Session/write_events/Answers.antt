@@ -4,6 +4,7 @@ use Rattle.ecs_observe.specs.Parts.{held_of}
 use Rattle.ecs_model.specs.stored.Session.{events}
 use Rattle.ecs_model.specs.stored.Watches.{event_text}
 use Rattle.ecs_observe.specs.Standing.{Standing, session_of}
+use Rattle.watch_concerns.specs.Since.{IsAfter}
 use Rattle.watch_stored.specs.Held.{WasNow}
 use Rattle.ecs_observe.proofs.EventEffects.{none_taken_for, none_waits_after, none_waits_told, put_told, retold_after, retold_lists, retold_session, searched_for, taken_for, told_waits}
 use Rattle.ecs_observe.specs.Stored.{entries_of}
@@ -12,15 +13,19 @@ use Rattle.ecs_observe.proofs.session.Session.write_events.Goals as goal
 pub returns-in_default-clause-after : goal.returns-in_default-clause-after
 returns-in_default-clause-after g c = none_waits_after _ c.args.self.now c.self.view_is c.in_default.is
 
-pub tell_led-requires-clause-was : goal.tell_led-requires-clause-was
-tell_led-requires-clause-was g c =
-    subst (λ o. IfSome o (λ done. All (WasNow c.self.inside.world.state done) (map held_of (entries_of c.self.inside.stored)))) c.in-Some.is c.self.invariant.0.before
+pub tell_led-requires-clause-listening : goal.tell_led-requires-clause-listening
+tell_led-requires-clause-listening g c = record {
+  after = subst (λ o. IfSome o (IsAfter c.self.inside.world.state)) c.in-Some.is c.self.invariant.0.after;
+  held = c.self.invariant.0.held;
+  was = subst (λ o. IfSome o (λ done. All (WasNow c.self.inside.world.state done) (map held_of (entries_of c.self.inside.stored)))) c.in-Some.is c.self.invariant.0.before;
+  none = c.begin.ensures.rows;
+}
 
 pub invariant_of-self-2 : goal.invariant_of-self-2
 invariant_of-self-2 g c = (
   retold_session _ c.args.self.now c.self.view_is _
       (put_told _ c.self.invariant.0 c.keeps.ensures c.in-Some.changed c.in-Some.is _ (ap (map held_of) c.put_rows.ensures.held ∙ c.in_ok-tell_led.ensures.rows))
-      c.tell_led.new.compared c.self.invariant.0 c.keeps.ensures,
+      c.tell_led.new.report.searches.compared c.self.invariant.0 c.keeps.ensures,
   c.put_rows.ensures.lists c.self.inside.world.tables c.self.invariant.1,
   c.put_rows.ensures.stored,
 )
@@ -29,16 +34,16 @@ pub returns-clause-after : goal.returns-clause-after
 returns-clause-after g c =
     retold_after _ c.args.self.now c.self.view_is _
     (put_told _ c.self.invariant.0 c.keeps.ensures c.in-Some.changed c.in-Some.is _ (ap (map held_of) c.put_rows.ensures.held ∙ c.in_ok-tell_led.ensures.rows))
-    c.tell_led.new.compared
+    c.tell_led.new.report.searches.compared
 
 pub returns-clause-grows : goal.returns-clause-grows
 returns-clause-grows g c =
-    let before = ap (λ (s : Standing). s.compared) c.self.view_is in
-    omega (arith, before, c.tell_led.ensures.grows)
+    let before = c.begin.ensures.compared ∙ ap (λ (s : Standing). s.compared) c.self.view_is in
+    omega (arith, before, c.in_ok-tell_led.ensures.grows)
 
 pub returns-clause-few : goal.returns-clause-few
 returns-clause-few g c =
-    let before = ap (λ (s : Standing). s.compared) c.self.view_is in
+    let before = c.begin.ensures.compared ∙ ap (λ (s : Standing). s.compared) c.self.view_is in
     let searched = searched_for _ c.args.self.now c.self.view_is c.in-Some.changed c.in-Some.is in
     omega (arith, before, searched, c.in_ok-tell_led.ensures.few)
 
@@ -47,15 +52,15 @@ returns-in_default-clause-counted g c = omega (arith, none_taken_for _ c.args.se
 
 pub returns-clause-counted : goal.returns-clause-counted
 returns-clause-counted g c =
-    let before = ap (λ (s : Standing). s.compared) c.self.view_is in
+    let before = c.begin.ensures.compared ∙ ap (λ (s : Standing). s.compared) c.self.view_is in
     let taken = taken_for _ c.args.self.now c.self.view_is c.in-Some.changed c.in-Some.is in
-    omega (arith, before, taken, c.in_ok-tell_led.ensures.counted)
+    omega (arith, before, taken, c.in_ok-tell_led.ensures.taken)
 
 pub returns-clause-lists : goal.returns-clause-lists
 returns-clause-lists g c =
     retold_lists _ c.args.self.now c.self.view_is _
     (put_told _ c.self.invariant.0 c.keeps.ensures c.in-Some.changed c.in-Some.is _ (ap (map held_of) c.put_rows.ensures.held ∙ c.in_ok-tell_led.ensures.rows))
-    c.tell_led.new.compared
+    c.tell_led.new.report.searches.compared
 
 pub returns-in_default-clause-written : goal.returns-in_default-clause-written
 returns-in_default-clause-written g c =
@@ -64,5 +69,5 @@ returns-in_default-clause-written g c =
 
 pub returns-clause-written : goal.returns-clause-written
 returns-clause-written g c =
-    let told = told_waits _ c.args.self.now c.self.view_is c.in-Some.changed _ c.tell_led.new.events.items c.in-Some.is c.clear-2.ensures.items c.in_ok-tell_led.ensures.told in
+    let told = told_waits _ c.args.self.now c.self.view_is c.in-Some.changed c.begin.new.self.events.items c.tell_led.new.report.events.items c.in-Some.is c.begin.ensures.events c.in_ok-tell_led.ensures.told in
     c.in_ok-write_all.ensures ∙ ap (λ es. c.args.output.now.items ++ flat_map event_text es) (c.as_slice.ensures.value ∙ told)
