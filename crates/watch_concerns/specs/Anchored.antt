@@ -1,4 +1,5 @@
--- Anchored queries: a fact is about each entity that a variable stands for, so births and deaths alone change no row.
+-- Anchored queries: for each variable of a row there is a fact about its entity, so creating or deleting an entity
+-- alone changes no row.
 use Rattle.std.specs.Prelude.{ℕ, ◌==◌, Bool, false, not, ◌&&◌, ◌||◌, Option}
 use Rattle.std.specs.Option.{option_map_or}
 use Rattle.ecs_model.specs.rows.Level.{Level}
@@ -8,7 +9,7 @@ use Rattle.query_model.specs.declared.query.Term.{Term}
 use Rattle.query_model.specs.Query.{Item, Query}
 use Rattle.watch_concerns.specs.Bonds.{are_all_bound, each_must, groups_are_bound, has_directly}
 
--- whether a reference is a variable
+-- whether a reference is this variable
 abbrev pub is_variable : ℕ → Ref → Bool
 is_variable v (Is e) = false
 is_variable v (Var u) = u == v
@@ -18,11 +19,12 @@ is_variable v AnyOnce = false
 abbrev pub may_be_variable : ℕ → Option Ref → Bool
 may_be_variable v r = option_map_or (is_variable v) r false
 
--- whether a term that matches shows a fact about the entity of a variable: of its source, or one that mentions it. A closed term may reach an entity from itself without a fact
+-- whether a term can match only by a fact about the entity of a variable: a fact of its source, or one that mentions
+-- it. A closed term may match an entity with itself without a fact
 abbrev pub term_anchors : ℕ → Term → Bool
 term_anchors v t = not t.closed && (is_variable v t.source || is_variable v t.component || may_be_variable v t.target)
 
--- whether an item holds only where there is such a fact
+-- whether an item can hold only by such a fact
 abbrev pub item_anchors : ℕ → Item → Bool
 item_anchors v x = each_must (term_anchors v) x
 

@@ -1,4 +1,5 @@
--- Whether each variable of a query is bound in the level that it belongs to: the whole query's, or a group's.
+-- Whether each variable of a query is bound in its own level, which is the query itself or the group that it belongs
+-- to.
 use Rattle.std.specs.Prelude.{ℕ, Bool, true, false, ◌&&◌, ◌||◌}
 use Rattle.std.specs.List.{list_all}
 use Rattle.ecs_model.specs.rows.Level.{Level, done, also, unless, top}
@@ -20,7 +21,7 @@ has_directly p done = false
 has_directly p (also x rest) = p x || has_directly p rest
 has_directly p (unless from_term own inner rest) = has_directly p rest
 
--- where a test says which variables are bound in a level
+-- for a test that says whether a variable is bound in a level
 module _ (bound : ℕ → Level → Bool) where
   -- whether the own variables of each group in a level are bound in the group
   abbrev pub groups_are_bound : Level → Bool

@@ -1,4 +1,4 @@
--- Bonds of variables, read from the pieces from the left.
+-- Whether variables are bound, read from the pieces of a query from left to right.
 use Rattle.std.specs.Prelude.{ℕ, ◌+◌, ◌-◌, ◌==◌, Bool, true, false, not, ◌&&◌, ◌||◌, List, [], ◌∷◌, if◌then◌else◌}
 use Rattle.std.specs.List.{list_all}
 use Rattle.ecs_model.specs.rows.Level.{Level}
@@ -11,14 +11,14 @@ use Rattle.watch_concerns.specs.Bonds.{has_directly}
 use Rattle.watch_concerns.specs.Linked.{item_links}
 use Rattle.watch_concerns.specs.Tied.{item_ties, needs_no_tie}
 
--- ---- the bonds of the code
+-- ---- the bonds as they are in the code
 
 abbrev pub item_binds : Bond → ℕ → Item → Bool
 item_binds Anchor v x = item_anchors v x
 item_binds Tie v x = item_ties v x
 item_binds Link v x = item_links v x
 
--- whether a variable needs no bond, by the terms of its query
+-- whether a variable needs no bond in a query with these terms
 abbrev pub is_free : Bond → List Term → ℕ → Bool
 is_free Anchor ts v = false
 is_free Tie ts v = needs_no_tie ts v
@@ -46,7 +46,8 @@ module _ (test : Item → Bool) where
   piece_passes (opening from_term own) = false
   piece_passes closing = false
 
-  -- whether an item in no group of those that are opened here passes. The pieces are those of a whole query, or of a group up to its end
+  -- whether an item directly in the level passes. The pieces are those of a whole query, or begin with a group and are
+  -- read up to its end
   abbrev pub passes_from : Bool → ℕ → List Piece → Bool
   passes_from whole depth [] = false
   passes_from whole depth (p ∷ ps) =
@@ -55,7 +56,7 @@ module _ (test : Item → Bool) where
       else passes_from whole (depth_behind depth p) ps
 
 module _ (holds : List Piece → ℕ → Bool) where
-  -- whether each own variable of each group holds, by the pieces after the group's beginning
+  -- whether `holds` is true for each own variable of each group, given the pieces after the group's beginning
   abbrev pub each_group : List Piece → Bool
   each_group [] = true
   each_group (item x ∷ ps) = each_group ps
@@ -68,6 +69,6 @@ module _ (bond : Bond) (all : List Term) where
   abbrev pub binds_from : Bool → List Piece → ℕ → Bool
   binds_from whole ps v = is_free bond all v || passes_from (item_binds bond v) whole 0 ps
 
-  -- whether the own variables of each group are
+  -- whether the own variables of each group are bound in it
   abbrev pub groups_from : List Piece → Bool
   groups_from ps = each_group (binds_from false) ps

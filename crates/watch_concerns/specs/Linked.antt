@@ -1,5 +1,4 @@
--- Linked queries: each variable stands for an entity that has a pair in common with `$this`, or with whom a variable
--- before it stands for.
+-- Linked queries: the entity of each variable shares a pair with `$this`, or with the entity of an earlier variable.
 use Rattle.std.specs.Prelude.{ℕ, ◌==◌, Bool, false, not, ◌&&◌, ◌||◌, nat_lt, Option, is_none}
 use Rattle.std.specs.List.{list_all}
 use Rattle.std.specs.Option.{option_map_or}
@@ -15,7 +14,7 @@ use Rattle.watch_concerns.specs.Tied.{asks_near}
 
 -- ---- links of variables
 
--- whether a reference is a variable before this one, by their numbers. `$this` is the first
+-- whether a reference is an earlier variable than this one, by their numbers. `$this` is the first
 abbrev pub is_before : ℕ → Ref → Bool
 is_before v (Is e) = false
 is_before v (Var u) = nat_lt u v
@@ -25,18 +24,20 @@ is_before v AnyOnce = false
 abbrev pub may_be_before : ℕ → Option Ref → Bool
 may_be_before v r = option_map_or (is_before v) r false
 
--- whether a term that matches shows that the entity of a variable holds a pair with that of one before it as the target, or the other way round
+-- whether a term matches only by a pair between the entity of a variable and the entity of an earlier one: either may
+-- be the holder, and the other is the target
 abbrev pub term_links : ℕ → Term → Bool
 term_links v t = is_none t.up && not t.closed && (is_variable v t.source && may_be_before v t.target || is_before v t.source && may_be_variable v t.target)
 
--- whether an item holds only where it does
+-- whether an item holds only by such a pair
 abbrev pub item_links : ℕ → Item → Bool
 item_links v x = each_must (term_links v) x
 
--- whether an item directly in a level shows so, or the variable is `$this`
+-- whether an item directly in a level holds only so, or the variable is `$this`
 abbrev pub is_linked_in : ℕ → Level → Bool
 is_linked_in v l = v == 0 || has_directly (item_links v) l
 
--- whether all terms ask `$this` and its ancestors, or a variable's entity itself, and each variable is linked in its own level
+-- whether each term tests stored facts of `$this`, of its ancestors, or of a variable's entity itself, and each
+-- variable is linked in its own level
 unfoldable pub is_linked : Query → Bool
 is_linked q = list_all asks_near (terms q) && are_all_bound is_linked_in q

@@ -4,7 +4,7 @@ use Rattle.std.specs.List.{list_any}
 use Rattle.query_model.specs.Query.{Query}
 use Rattle.query_model.specs.declared.query.Mention.{Mention}
 
--- whether one of these is of the entity at an index
+-- whether one of these mentions is of the entity at an index
 abbrev pub mentions_index : List Mention → ℕ → Bool
 mentions_index ms i = list_any (λ m. (m.entity).index == i) ms
 

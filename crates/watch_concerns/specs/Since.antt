@@ -1,5 +1,5 @@
--- What a stored query is notified of after a command, by the world after it and what has changed: of the world before
--- nothing else is needed but the entities of a monitor's rows.
+-- What a stored query is notified of after a command, from the world after it and the changes. Nothing else of the
+-- world before is needed, but the entities of a monitor's rows.
 use Rattle.std.specs.Prelude.{◌≡◌, ℕ, ◌==◌, Bool, not, ◌&&◌, ◌||◌, List, [], ◌++◌, map, filter, codes, Option, None, Some, Ok}
 use Rattle.std.specs.List.{find, list_any}
 use Rattle.std.specs.Option.{option_map_or}
@@ -21,14 +21,14 @@ use Rattle.ecs_model.specs.steps.Step.{Command, step}
 use Rattle.ecs_model.specs.steps.WellFormed.{IsWellFormed}
 use Rattle.ecs_model.specs.steps.Rules.{prefab, disabled}
 
--- this has changed by some command, which left this world
+-- these are the changes of some command that led to this world
 pub record IsAfter (after : WorldState) (changed : Changed) : Type 0 where
   pub before : WorldState
   pub command : Command
   pub kept : IsWellFormed before
   pub stepped : step before command ≡ Ok (after, changed)
 
--- an entity that died, with the name that it had
+-- an entity that was deleted, with the name that it had
 abbrev pub Dead : Type 0
 Dead = EntityId × Option (List ℕ)
 
@@ -41,7 +41,7 @@ module _ (after : WorldState) (changed : Changed) where
   abbrev pub entity_now : ℕ → EntityId
   entity_now i = record { index = i; generation = count_at after.live i }
 
-  -- the entity at an index that died
+  -- the deleted entity at an index
   abbrev pub died_at : ℕ → Option Dead
   died_at i = find (λ d. (d.0).index == i) changed.died
 
@@ -49,7 +49,7 @@ module _ (after : WorldState) (changed : Changed) where
   abbrev pub entity_before : ℕ → EntityId
   entity_before i = option_map_or (λ d. d.0) (died_at i) (entity_now i)
 
-  -- the text by which it printed
+  -- the text by which it was printed then
   abbrev pub entity_text_before : ℕ → List ℕ
   entity_text_before i = option_map_or dead_text (died_at i) (entity_text after (entity_now i))
 
@@ -57,12 +57,12 @@ module _ (after : WorldState) (changed : Changed) where
   abbrev pub index_text_before : ℕ → List ℕ
   index_text_before i = option_map_or dead_text (died_at i) (index_text after i)
 
-  -- a pair as `(R,T)`
+  -- a pair is printed as `(R,T)`
   abbrev pub id_text_before : Id → List ℕ
   id_text_before (plain c) = index_text_before c
   id_text_before (pair r t) = codes "(" ++ index_text_before r ++ codes "," ++ index_text_before t ++ codes ")"
 
-  -- whether an entity held an id before: it has gone, or is held and has not come
+  -- whether an entity held an id before: the fact was removed, or it is held now and wasn't added
   abbrev pub held_before : ℕ → Id → Bool
   held_before e i = list_any (key_eq (e, i)) changed.went || (holds after e i && not (list_any (key_eq (e, i)) changed.came))
 
@@ -70,24 +70,24 @@ module _ (after : WorldState) (changed : Changed) where
   abbrev pub is_cut_before : Query → ℕ → ℕ → Bool
   is_cut_before q tag e = held_before e (plain tag) && not (level_mentions tag (top q))
 
-  -- whether an observer is notified of a fact that went: it matches, and its entity was not passed over
+  -- whether an observer is notified of a removed fact: the fact matches, and its entity wasn't hidden from the query
   abbrev pub observed_before : Query → Key → Bool
   observed_before q k = matches_term q k.1 && not (is_cut_before q prefab k.0 || is_cut_before q disabled k.0)
 
   module _ (watch : List ℕ) where
-    -- an entity has left the rows
+    -- the event of an entity that has left the rows
     abbrev pub left_event : ℕ → Event
     left_event i = record { watch = watch; kind = Left; entity = entity_before i; id = None; value = None; entity_text = entity_text_before i; id_text = [] }
 
-    -- a fact went
+    -- the event of a removed fact
     abbrev pub removed_event : Key → Event
     removed_event k = record { watch = watch; kind = Removed; entity = entity_before k.0; id = Some k.1; value = None; entity_text = entity_text_before k.0; id_text = id_text_before k.1 }
 
-    -- a monitor whose rows had these entities before, and have these now
+    -- the events of a monitor, from the entities of its rows before and now
     abbrev pub told_of_sets : List ℕ → List ℕ → List Event
     told_of_sets old new = map left_event (missing_from old new) ++ map (entity_event watch Entered after) (missing_from new old)
 
-    -- a stored query of a kind, whose rows had these entities before if it is a monitor
+    -- the events of a stored query of a kind, from the entities of its rows before if it is a monitor
     unfoldable pub told_since : StoredKind → Query → List ℕ → List Event
     told_since Kept q old = []
     told_since Monitor q old = told_of_sets old (matching (view_of after) q)

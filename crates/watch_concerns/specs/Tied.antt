@@ -1,4 +1,4 @@
--- Tied queries: all that they ask is asked of `$this` and its ancestors, or of those with whom `$this` itself holds a pair.
+-- Tied queries: each term tests `$this`, its ancestors, or the target of a pair that `$this` itself holds.
 use Rattle.std.specs.Prelude.{ℕ, ◌==◌, Bool, not, ◌&&◌, ◌||◌, List, is_none}
 use Rattle.std.specs.List.{list_all, list_any}
 use Rattle.ecs_model.specs.rows.Level.{Level}
@@ -11,34 +11,34 @@ use Rattle.watch_concerns.specs.Anchored.{is_variable, may_be_variable}
 use Rattle.watch_concerns.specs.Bonds.{are_all_bound, each_must, has_directly}
 use Rattle.watch_concerns.specs.Others.{asks_this_stored}
 
--- ---- who is asked
+-- ---- the sources of terms
 
--- whether a term asks `$this` or its ancestors, or a variable's entity itself, for ids that are stored
+-- whether a term tests stored facts of `$this` or its ancestors, or of a variable's entity itself
 abbrev pub asks_near : Term → Bool
 asks_near t = asks_this_stored t || (not (is_constant t.source) && is_none t.up && not t.closed)
 
--- whether a term asks the entity of a variable
+-- whether a variable is the source of a term
 abbrev pub term_asks : ℕ → Term → Bool
 term_asks v t = is_variable v t.source
 
--- whether none of these terms asks the entity of a variable, or it is `$this`
+-- whether a variable is `$this`, or the source of none of these terms
 abbrev pub needs_no_tie : List Term → ℕ → Bool
 needs_no_tie ts v = v == 0 || not (list_any (term_asks v) ts)
 
 -- ---- ties
 
--- whether a term that matches shows that `$this` itself holds a pair with the entity of a variable as its target
+-- whether a term matches only where `$this` itself holds a pair whose target is the entity of a variable
 abbrev pub term_ties : ℕ → Term → Bool
 term_ties v t = asks_first t && may_be_variable v t.target
 
--- whether an item holds only where it does
+-- whether an item holds only so
 abbrev pub item_ties : ℕ → Item → Bool
 item_ties v x = each_must (term_ties v) x
 
--- whether an item directly in a level shows so, where the terms of a query ask the entity
+-- whether an item directly in a level holds only so, or the variable needs no tie
 abbrev pub ties : List Term → ℕ → Level → Bool
 ties ts v l = needs_no_tie ts v || has_directly (item_ties v) l
 
--- whether all terms ask so, and each variable whose entity is asked is tied to `$this` in its own level
+-- whether each term tests such entities, and each variable that is a source is tied to `$this` in its own level
 unfoldable pub is_tied : Query → Bool
 is_tied q = list_all asks_near (terms q) && are_all_bound (ties (terms q)) q

@@ -1,4 +1,4 @@
--- For whom an id concerns a query, found at once.
+-- For which entities an id concerns a query, found in one pass.
 use Rattle.std.specs.Prelude.{◌||◌, List}
 use Rattle.std.specs.List.{list_any}
 use Rattle.ecs_id.specs.Id.{Id}
@@ -17,6 +17,6 @@ term_concern i t = record { anyone = term_concerns i t; others = term_concerns_o
 abbrev pub terms_concern : Id → List Term → Concern
 terms_concern i ts = record { anyone = list_any (term_concerns i) ts; others = list_any (term_concerns_others i) ts; below = list_any (term_concerns_below i) ts }
 
--- whether it does at all, for others, and for those below its holder
+-- whether it does at all, for other entities, and for the entities below its holder
 abbrev pub concern_of : Query → Id → Concern
 concern_of q i = record { anyone = concerns q i; others = concerns_others q i; below = concerns_below q i }

@@ -1,4 +1,4 @@
-//! Which ids concern a query, and which terms ask `$this`.
+//! Which ids concern a query, and which terms have `$this` or its ancestors as the source.
 
 ghost use Rattle.std.specs.Prelude.{◌≡◌};
 ghost use Rattle.watch_concerns.specs.Concerns.{is_asked_by_all, is_pair_of, leads_up, may_be, may_match};
@@ -9,7 +9,8 @@ use ecs_id::Id;
 use ecs_model::built_ins::{DISABLED, PREFAB, REFLEXIVE, TRANSITIVE};
 use query_model::query::{Ref, Term};
 
-/// Whether an id is a tag that says how far a relationship reaches, or who is passed over.
+/// Whether an id is one of the tags that concern every query: `Transitive` and `Reflexive`, which say how far a
+/// relationship reaches, and `Prefab` and `Disabled`, which hide an entity from queries.
 #[inline(always)]
 pub fn is_asked_by_all(id: Id) -> bool
     ensures { result ≡ is_asked_by_all id }
@@ -21,7 +22,7 @@ pub fn is_asked_by_all(id: Id) -> bool
     tag == TRANSITIVE || tag == REFLEXIVE || tag == PREFAB || tag == DISABLED
 }
 
-/// Whether an id is a tag that says how far a relationship reaches.
+/// Whether an id is one of the tags `Transitive` and `Reflexive`, which say how far a relationship reaches.
 #[inline(always)]
 pub fn says_how_far(id: Id) -> bool
     ensures { result ≡ says_how_far id }
@@ -33,14 +34,16 @@ pub fn says_how_far(id: Id) -> bool
     tag == TRANSITIVE || tag == REFLEXIVE
 }
 
-/// Whether a term asks `$this`, itself or its ancestors, for ids that are stored.
+/// Whether a term tests stored facts of `$this` or of its ancestors. A closed term, of a transitive or reflexive
+/// relationship, also matches facts that aren't stored.
 pub(crate) fn asks_this_stored(term: &Term) -> bool
     ensures { result ≡ asks_this_stored term.now }
 {
     term.source.is_first() && !term.closed
 }
 
-/// Whether a term asks for an id, goes up along it, or follows it.
+/// Whether an id concerns a term: the term may match it, goes up along it to ancestors, or follows it as a transitive
+/// or reflexive relationship.
 pub(crate) fn term_concerns(term: &Term, id: Id) -> bool
     ensures { result ≡ term_concerns id term.now }
 {
@@ -49,7 +52,7 @@ pub(crate) fn term_concerns(term: &Term, id: Id) -> bool
         || (term.closed && is_pair_of(term.component, id))
 }
 
-/// Whether a pattern may match an id: a pair where it has a target, and a plain id where it has none.
+/// Whether a pattern may match an id: with a target only pairs, without a target only plain ids.
 pub(crate) fn may_match(first: Ref, target: Option<Ref>, id: Id) -> bool
     ensures { result ≡ may_match first target id }
 {
@@ -60,7 +63,7 @@ pub(crate) fn may_match(first: Ref, target: Option<Ref>, id: Id) -> bool
     }
 }
 
-/// Whether an id is a pair of the relationship along which a term asks ancestors.
+/// Whether an id is a pair of the relationship along which a term goes up to ancestors.
 fn leads_up(up: Option<u32>, id: Id) -> bool
     ensures { result ≡ leads_up up id }
 {
@@ -74,7 +77,7 @@ fn is_pair_of(first: Ref, id: Id) -> bool
     id.second().is_some() && may_be(id.first(), first)
 }
 
-/// Whether a reference may stand for the entity at an index, whatever variables stand for.
+/// Whether a reference may stand for the entity at an index; a variable may stand for any.
 fn may_be(index: u32, reference: Ref) -> bool
     ensures { result ≡ may_be index reference }
 {

@@ -1,5 +1,6 @@
-//! Which ids concern a query: where only facts of other ids come and go, its rows are of the same entities. What stored
-//! queries are notified of after commands stands as definitions in `specs/`, with the laws that are proved of them.
+//! Which ids concern a query, and for which entities. If only facts with other ids are added and removed, the query
+//! keeps rows of the same entities. What stored queries are notified of after a command is defined in `specs/`, with
+//! laws about it.
 #![tactic(auto)]
 
 mod anchoring;

@@ -1,4 +1,4 @@
-//! Whether each variable of a query is linked with `$this`, from pair to pair.
+//! Whether a query is linked: a chain of pairs leads from `$this` to the entity of each variable.
 
 ghost use Rattle.std.specs.Prelude.{◌≡◌};
 ghost use Rattle.std.specs.List.{list_all};
@@ -12,12 +12,13 @@ use query_check::{Item, Query};
 use query_model::query::{Ref, Term};
 use std::alloc::Allocator;
 
-/// Whether each term of a query asks `$this` or its ancestors, or the entity of a variable itself; and each variable is
-/// linked with one before it: an item directly in the level that the variable belongs to holds only where one of their
-/// entities holds a pair with the other as the target. Then a fact of another entity moves in or out of the query's
-/// rows only those from whom terms lead to that entity, and those below it.
+/// Whether a query is linked. Each term tests stored facts of `$this`, of its ancestors, or of the entity of a variable
+/// itself. And each variable but `$this` shares a pair with an earlier one: an item directly in the variable's own
+/// level holds only where one of their two entities holds a pair whose target is the other. Then, if a fact of another
+/// entity changes, the only entities that may enter or leave the rows are those from which the query's terms lead to
+/// that entity, and the entities below it.
 ///
-/// Takes no memory, and time in the square of the pieces at most.
+/// It takes no memory. Its time grows at most with the square of the number of pieces of the query.
 #[tactic(auto, unfolding(crate::specs::Linked::is_linked))]
 pub fn is_linked<A: Allocator>(query: &Query<A>) -> bool
     ensures { result ≡ is_linked query.now }
@@ -25,7 +26,7 @@ pub fn is_linked<A: Allocator>(query: &Query<A>) -> bool
     all_ask_near(query.terms()) && are_all_bound(query, &Bond::Link)
 }
 
-/// Whether an item holds only where the entity of a variable has a pair in common with that of one before it.
+/// Whether an item holds only where the entity of a variable shares a pair with the entity of an earlier one.
 pub(crate) fn item_links<A: Allocator>(item: &Item<A>, variable: usize) -> bool
     ensures { result ≡ item_links variable (seen_item item.now) }
 {
@@ -42,7 +43,7 @@ fn all_link(terms: &[Term], variable: usize) -> bool
     terms.iter().all(|term| term_links(term, variable))
 }
 
-/// Whether a term that matches shows such a pair.
+/// Whether a term matches only by such a pair.
 fn term_links(term: &Term, variable: usize) -> bool
     ensures { result ≡ term_links variable term.now }
 {

@@ -1,4 +1,4 @@
-//! Whether an entity is `$this` of a row of a query, as far as its ids alone decide it.
+//! Whether an entity is `$this` of a row, as far as its own ids decide it.
 
 ghost use Rattle.std.specs.Prelude.{◌≡◌, map, false};
 ghost use Rattle.std.specs.List.{list_any};
@@ -16,10 +16,10 @@ use query_check::{Item, Piece, Query};
 use query_model::query::{Ref, Term};
 use std::alloc::Allocator;
 
-/// Whether an entity with these ids lacks what a term before all groups asks of `$this` itself. Then it is `$this`
-/// of no row of the query.
+/// Whether an entity with these ids lacks an id that the query requires on `$this` itself, by a term before the first
+/// group. Then it is `$this` of no row.
 ///
-/// Takes no memory, and time in the terms and the ids.
+/// It takes no memory, and time in the number of terms and of ids.
 #[tactic(auto, unfolding(crate::specs::OwnIds::lacks))]
 pub fn lacks<A: Allocator>(query: &Query<A>, ids: &[Id]) -> bool
     ensures { result ≡ lacks query.now ids.now }
@@ -60,11 +60,11 @@ pub(crate) fn any_matches(term: &Term, ids: &[Id]) -> bool
         .any(|id| may_match(term.component, term.target, *id))
 }
 
-/// Whether an entity with these ids meets all that a query asks, by these ids alone: the items outside all groups,
-/// while it lacks what some item of each group asks. Then it is `$this` of a row, if it lives. Where an item asks
-/// another entity, or for a variable, this isn't known.
+/// Whether these ids of an entity alone meet the query: they meet each item outside groups, and in each group some item
+/// requires an id that is missing. Then the entity, if alive, is `$this` of a row. False doesn't mean that it is in no
+/// row: items that test another entity or use a variable, and groups inside groups, aren't judged.
 ///
-/// Takes no memory, and time in the terms and the ids.
+/// It takes no memory, and time in the number of terms and of ids.
 #[tactic(auto, unfolding(crate::specs::OwnIds::meets))]
 pub fn meets<A: Allocator>(query: &Query<A>, ids: &[Id]) -> bool
     ensures { result ≡ meets query.now ids.now }
@@ -134,7 +134,7 @@ fn any_is_met(terms: &[Term], ids: &[Id]) -> bool
     terms.iter().any(|term| term_is_met(term, ids))
 }
 
-/// Whether one of these ids is what a term without variables asks of `$this` itself.
+/// Whether a term without variables matches one of these ids on `$this` itself.
 fn term_is_met(term: &Term, ids: &[Id]) -> bool
     ensures { result ≡ term_is_met ids.now term.now }
 {

@@ -1,4 +1,4 @@
-//! Whether a query asks only `$this`, its ancestors, and those with whom `$this` itself holds a pair.
+//! Whether a query is tied: it tests only `$this`, its ancestors, and the targets of pairs that `$this` itself holds.
 
 ghost use Rattle.std.specs.Prelude.{◌≡◌};
 ghost use Rattle.std.specs.List.{list_all, list_any};
@@ -12,12 +12,13 @@ use query_check::{Item, Query};
 use query_model::query::Term;
 use std::alloc::Allocator;
 
-/// Whether each term of a query asks `$this` or its ancestors, or the entity of a variable itself with whom `$this`
-/// itself holds a pair: an item directly in the level that the variable belongs to holds only where that is so. Then a
-/// fact of another entity moves in or out of the query's rows only those who hold a pair with that entity as the
-/// target, and those below it.
+/// Whether a query is tied. Each term tests stored facts of `$this`, of its ancestors, or of the entity of a variable
+/// itself. And each variable that is the source of a term is a target of `$this`: an item directly in the variable's
+/// own level holds only where `$this` itself holds a pair whose target is the variable's entity. Then, if a fact of
+/// another entity changes, the only entities that may enter or leave the rows are the holders of a pair with that
+/// entity as the target, and the entities below it.
 ///
-/// Takes no memory, and time in the square of the pieces at most.
+/// It takes no memory. Its time grows at most with the square of the number of pieces of the query.
 #[tactic(auto, unfolding(crate::specs::Tied::is_tied))]
 pub fn is_tied<A: Allocator>(query: &Query<A>) -> bool
     ensures { result ≡ is_tied query.now }
@@ -31,14 +32,14 @@ pub(crate) fn all_ask_near(terms: &[Term]) -> bool
     terms.iter().all(|term| asks_near(term))
 }
 
-/// Whether a term asks `$this` or its ancestors, or a variable's entity itself, for ids that are stored.
+/// Whether a term tests stored facts of `$this` or its ancestors, or of a variable's entity itself.
 fn asks_near(term: &Term) -> bool
     ensures { result ≡ asks_near term.now }
 {
     asks_this_stored(term) || (!term.source.is_constant() && term.up.is_none() && !term.closed)
 }
 
-/// Whether a variable is `$this`, or one whose entity none of these terms asks.
+/// Whether a variable is `$this`, or is the source of none of these terms.
 pub(crate) fn needs_no_tie(terms: &[Term], variable: usize) -> bool
     ensures { result ≡ needs_no_tie terms.now variable }
 {
@@ -51,7 +52,7 @@ fn any_asks(terms: &[Term], variable: usize) -> bool
     terms.iter().any(|term| is_variable(term.source, variable))
 }
 
-/// Whether an item holds only where `$this` itself holds a pair with the entity of a variable as its target.
+/// Whether an item holds only where `$this` itself holds a pair whose target is the entity of a variable.
 pub(crate) fn item_ties<A: Allocator>(item: &Item<A>, variable: usize) -> bool
     ensures { result ≡ item_ties variable (seen_item item.now) }
 {
@@ -68,7 +69,7 @@ fn all_tie(terms: &[Term], variable: usize) -> bool
     terms.iter().all(|term| term_ties(term, variable))
 }
 
-/// Whether a term that matches shows that `$this` itself holds such a pair.
+/// Whether a term matches only where `$this` itself holds such a pair.
 fn term_ties(term: &Term, variable: usize) -> bool
     ensures { result ≡ term_ties variable term.now }
 {

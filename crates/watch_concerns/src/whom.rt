@@ -1,4 +1,4 @@
-//! For whom an id concerns a query.
+//! For which entities an id concerns a query.
 
 ghost use Rattle.std.specs.Prelude.{◌≡◌};
 ghost use Rattle.watch_concerns.specs.Whom.{concern_of, joined_concerns, term_concern, terms_concern};
@@ -9,27 +9,28 @@ use query_check::Query;
 use query_model::query::Term;
 use std::alloc::Allocator;
 
-/// For whom an id concerns a query.
+/// For which entities an id concerns a query, if one of them gains or loses it.
 #[derive(Clone, Copy)]
 pub struct Concern {
-    /// For its holder, or for another entity.
+    /// For its holder or for another entity.
     pub anyone: bool,
-    /// For others than its holder and those below that.
+    /// For entities besides its holder and those below it.
     pub others: bool,
-    /// For those below its holder.
+    /// For the entities below its holder, whose ancestor it is.
     pub below: bool,
 }
 
-/// For none.
+/// For no entity.
 pub const NOBODY: Concern = Concern {
     anyone: false,
     others: false,
     below: false,
 };
 
-/// For whom an id concerns a query: the answers of `concerns`, `concerns_others` and `concerns_below`, by one pass.
+/// For which entities an id concerns a query: the answers of `concerns`, `concerns_others` and `concerns_below` in one
+/// pass.
 ///
-/// Takes no memory, and time in the terms of the query.
+/// It takes no memory, and time in the number of terms of the query.
 #[tactic(auto, unfolding(crate::specs::Concerns::concerns, crate::specs::Others::concerns_others, crate::specs::Others::concerns_below))]
 pub fn concern_of<A: Allocator>(query: &Query<A>, id: Id) -> Concern
     ensures { result ≡ concern_of query.now id }
@@ -42,7 +43,7 @@ pub fn concern_of<A: Allocator>(query: &Query<A>, id: Id) -> Concern
     joined_concerns(of_tags, of_terms(query.terms(), id))
 }
 
-/// For whom either does.
+/// For which entities one of the two does.
 #[inline(always)]
 pub fn joined_concerns(one: Concern, other: Concern) -> Concern
     ensures { result ≡ joined_concerns one other }
