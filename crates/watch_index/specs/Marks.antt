@@ -1,4 +1,4 @@
--- The marks of what is looked out for: a few thousand bits, so that occasions may share one.
+-- The marks of the occasions that are listened for: 4,096 bits, so several occasions may share one.
 use Rattle.std.specs.Prelude.{ℕ, ◌+◌, ◌*◌, ◌/◌, ◌%◌, Option, Some, None}
 use Rattle.component_index.specs.declared.pattern.Part.{Part}
 use Rattle.component_index.specs.declared.pattern.Part.TheVariants.{Is, Any}
@@ -7,12 +7,12 @@ use Rattle.watch_index.specs.declared.occasion.Occasion.TheVariants.{Life, Asked
 use Rattle.watch_index.specs.declared.occasion.Way.{Way}
 use Rattle.watch_index.specs.declared.occasion.Way.TheVariants.{Moves, IsWritten}
 
--- `*` has a number above all indexes
+-- `*` gets a number above all indexes
 abbrev pub number_of : Part → ℕ
 number_of (Is n) = n
 number_of Any = 4294967296
 
--- and a plain id the one above
+-- and a plain id, which has no target, the next one
 abbrev pub second_number : Option Part → ℕ
 second_number None = 4294967297
 second_number (Some p) = number_of p
@@ -21,7 +21,8 @@ abbrev pub way_number : Way → ℕ
 way_number Moves = 0
 way_number IsWritten = 536870912
 
--- the mark of an occasion. The factors are 2^30 by the golden ratio, and by the root of two less one, so that numbers that follow one another are spread
+-- the mark of an occasion. The factors are 2^30 times the golden ratio less one, and 2^30 times the root of two less
+-- one; they spread consecutive numbers
 abbrev pub mark_of : Occasion → ℕ
 mark_of Life = 0
 mark_of AskedByAll = 1

@@ -1,4 +1,4 @@
--- What stored queries look out for, and what happens by a command.
+-- The occasions that a stored query listens for, and the occasions that the changes of a command are.
 use Rattle.std.specs.Prelude.{ℕ, Bool, List, [], ◌∷◌, ◌++◌, map, flat_map, Option, Some, None, option_map, if◌then◌else◌}
 use Rattle.ecs_id.specs.Id.{Id}
 use Rattle.component_index.specs.declared.pattern.Part.{Part}
@@ -20,9 +20,9 @@ use Rattle.watch_index.specs.declared.occasion.Occasion.TheVariants.{Life, Asked
 use Rattle.watch_index.specs.declared.occasion.Way.{Way}
 use Rattle.watch_index.specs.declared.occasion.Way.TheVariants.{Moves, IsWritten}
 
--- ---- what a stored query looks out for
+-- ---- the occasions that a stored query listens for
 
--- what a reference may stand for, whatever variables do: `_` as `*`
+-- what a reference may stand for; a variable may stand for any entity, and `_` counts as `*`
 abbrev pub part_of : Ref → Part
 part_of (ref.Is e) = part.Is e
 part_of (ref.Var v) = part.Any
@@ -38,23 +38,24 @@ abbrev pub pairs_of : Part → Pattern
 pairs_of r = record { first = r; second = Some part.Any }
 
 module _ (way : Way) where
-  -- the pairs along which a term asks ancestors
+  -- the pairs along which a term goes up to ancestors
   abbrev pub up_occasions : Option ℕ → List Occasion
   up_occasions None = []
   up_occasions (Some r) = Fact way (pairs_of (part.Is r)) ∷ []
 
-  -- those that a closed term follows
+  -- the pairs that a closed term follows
   abbrev pub closed_occasions : Term → List Occasion
   closed_occasions t = if t.closed then Fact way (pairs_of (part_of t.component)) ∷ [] else []
 
   abbrev pub term_occasions : Term → List Occasion
   term_occasions t = Fact way (pattern_of t.component t.target) ∷ (up_occasions t.up ++ closed_occasions t)
 
--- of a monitor: facts that its terms may match or follow, those that concern every query, and lives, unless its query is anchored
+-- for a monitor: facts that its terms may match, go up along or follow, facts that concern every query, and created and
+-- deleted entities unless the query is anchored
 abbrev pub of_monitors : Query → List Occasion
 of_monitors q = flat_map (term_occasions Moves) (terms q) ++ AskedByAll ∷ (if is_anchored q then [] else Life ∷ [])
 
--- of each kind: an observer's one term is judged by its id alone
+-- for each kind; the one term of an observer is judged by its id alone
 abbrev pub occasions_of : StoredKind → Query → List Occasion
 occasions_of Kept q = []
 occasions_of Monitor q = of_monitors q
@@ -62,21 +63,21 @@ occasions_of OnAdd q = flat_map (term_occasions Moves) (terms q)
 occasions_of OnRemove q = flat_map (term_occasions Moves) (terms q)
 occasions_of OnSet q = flat_map (term_occasions IsWritten) (terms q)
 
--- ---- what happens
+-- ---- the occasions that changes are
 
--- to a fact of an id, by the patterns that match it
+-- for a change of a fact, by each pattern that matches its id
 abbrev pub facts_of : Way → Id → List Occasion
 facts_of way i = map (Fact way) (patterns_of i)
 
--- where the id is one that concerns every query
+-- if the id is one that concerns every query
 abbrev pub of_all : Id → List Occasion
 of_all i = if is_asked_by_all i then AskedByAll ∷ [] else []
 
--- by a fact of an id that comes or goes
+-- for an added or removed fact
 abbrev pub moved : Id → List Occasion
 moved i = of_all i ++ facts_of Moves i
 
--- by births or deaths, if there are any, and by the facts that came, that went, and whose values were set
+-- for created or deleted entities, for added and removed facts, and for facts whose values were set
 abbrev pub happening : Bool → List Key → List Key → List Key → List Occasion
 happening lives came went written =
     (if lives then Life ∷ [] else []) ++ (flat_map (λ k. moved k.1) came ++ (flat_map (λ k. moved k.1) went ++ flat_map (λ k. facts_of IsWritten k.1) written))

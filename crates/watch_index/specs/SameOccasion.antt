@@ -1,4 +1,4 @@
--- When two occasions are the same.
+-- When two occasions are equal.
 use Rattle.std.proofs.Common.{◌≡◌, Bool, true, true≢false, refl, sym, ap}
 use Rattle.component_index.specs.SamePattern.{same_pattern}
 use Rattle.watch_index.specs.declared.occasion.Occasion.{Occasion}
@@ -6,11 +6,11 @@ use Rattle.watch_index.specs.declared.occasion.Occasion.TheVariants.{Life, Asked
 use Rattle.watch_index.specs.declared.occasion.Way.TheVariants.{Moves, IsWritten}
 use Rattle.watch_index.specs.contracts.occasion.OccasionPartialEq.TheImpl as same_occasions
 
--- whether two occasions are the same
+-- whether two occasions are equal
 abbrev pub occasion_eq : Occasion → Occasion → Bool
 occasion_eq = same_occasions.ghosts.eq
 
--- occasions that compare equal are one
+-- occasions that compare equal are the same
 pub same_occasion : (o p : Occasion) → occasion_eq o p ≡ true → o ≡ p
 same_occasion Life Life h = refl
 same_occasion Life AskedByAll h = absurd (true≢false (sym h))

@@ -8,7 +8,7 @@ use Rattle.watch_index.specs.declared.words.Word.{Word}
 abbrev pub has_bit : ℕ → ℕ → Bool
 has_bit bits n = bit_at bits (n % 64) == 1
 
--- how many numbers a block has, by a name, so that no goal writes them all out
+-- how many numbers a block has; named, so that no goal writes them all out
 unfoldable pub block_size : ℕ
 block_size = 64
 
@@ -19,33 +19,33 @@ numbers_at block bits = filter (has_bit bits) (range_with_len (64 * block) block
 abbrev pub numbers_of : Word → List ℕ
 numbers_of w = numbers_at w.block w.bits
 
--- those of words, one after another
+-- the numbers of these words, one word after another
 abbrev pub numbers_in : List Word → List ℕ
 numbers_in ws = flat_map numbers_of ws
 
--- the numbers of a block before those of another
+-- the block of one word is before the block of another
 abbrev pub IsBefore : Word → Word → Type 0
 IsBefore v w = v.block < w.block
 
--- the numbers of the block have 64 bits
+-- the numbers of the block fit in 64 bits
 abbrev pub Fits : Word → Type 0
 Fits w = w.block < 288230376151711744
 
 abbrev pub IsFull : Word → Type 0
 IsFull w = numbers_of w ≢ []
 
--- blocks rise, their numbers have 64 bits, and no word is without numbers
+-- blocks ascend, their numbers fit in 64 bits, and no word is empty
 pub record AreWords (ws : List Word) : Type 0 where
   pub rise : AllPairs IsBefore ws
   pub fit : All Fits ws
   pub full : All IsFull ws
 
--- the word of a block stands there
+-- the word of this block stands at this place
 pub record IsWordOf (ws : List Word) (block place : ℕ) : Type 0 where
   pub within : place < length ws
   pub is : (d : Word) → (slice_index_or ws place d).block ≡ block
 
--- none is of the block, and one would stand there
+-- no word is of this block, and its word would go to this place
 pub record IsPlaceFor (ws : List Word) (block place : ℕ) : Type 0 where
   pub within : place ≤ length ws
   pub below : (k : ℕ) (d : Word) → k < place → (slice_index_or ws k d).block < block

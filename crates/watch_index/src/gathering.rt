@@ -1,4 +1,4 @@
-//! The numbers of the stored queries that look out for what has happened.
+//! The numbers of the stored queries that listen for a change that a command made.
 ghost use Rattle.std.specs.Prelude.{◌≡◌, ◌↔◌, ◌∷◌, ◌++◌, [], ℕ, Contains, OnOk, flat_map, if◌then◌else◌};
 ghost use Rattle.std.specs.List.Sorted.{IsStrictlyIncreasing};
 ghost use Rattle.watch_index.specs.Listed.{listed};
@@ -15,20 +15,21 @@ use short_list::ShortNumbers;
 use std::alloc::{AllocError, Allocator};
 use watch_concerns::is_asked_by_all;
 
-/// What a command has changed.
+/// The changes of a command.
 #[derive(Clone, Copy)]
 pub struct Happened<'c> {
-    /// Whether an entity was born or died.
+    /// Whether an entity was created or deleted.
     pub lives: bool,
-    /// The facts that came.
+    /// The added facts.
     pub came: &'c [FactKey],
-    /// Those that went.
+    /// The removed facts.
     pub went: &'c [FactKey],
-    /// And those whose values were set.
+    /// The facts whose values were set.
     pub written: &'c [FactKey],
 }
 
-/// Puts the numbers that are listed for all that has happened into an empty list, in the order in which they are met.
+/// Puts the numbers listed for each change into an empty list, in the order in which they are met; a number may stand
+/// there more than once.
 #[inline(always)]
 pub(crate) fn gather<A: Allocator + Copy>(
     index: &WatchIndex<A>,
@@ -47,7 +48,7 @@ pub(crate) fn gather<A: Allocator + Copy>(
     Ok(())
 }
 
-/// Adds the numbers that are listed for births and deaths, where there are any.
+/// Adds the numbers listed for created and deleted entities, if there is one.
 #[inline(always)]
 fn push_lives<A: Allocator + Copy>(
     index: &WatchIndex<A>,
@@ -63,7 +64,7 @@ fn push_lives<A: Allocator + Copy>(
     Ok(())
 }
 
-/// Adds the numbers that are listed for facts that came or went.
+/// Adds the numbers listed for added or removed facts.
 #[inline(always)]
 fn push_moved<A: Allocator + Copy>(
     index: &WatchIndex<A>,
@@ -80,7 +81,7 @@ fn push_moved<A: Allocator + Copy>(
     Ok(())
 }
 
-/// Adds the numbers that are listed for facts whose values were set.
+/// Adds the numbers listed for facts whose values were set.
 #[inline(always)]
 fn push_written<A: Allocator + Copy>(
     index: &WatchIndex<A>,
@@ -96,7 +97,7 @@ fn push_written<A: Allocator + Copy>(
     Ok(())
 }
 
-/// Adds the numbers that are listed for facts that concern every query, where an id is of one.
+/// Adds the numbers listed for facts that concern every query, if the id is of such a fact.
 #[inline(always)]
 fn push_of_all<A: Allocator + Copy>(
     index: &WatchIndex<A>,
@@ -111,7 +112,7 @@ fn push_of_all<A: Allocator + Copy>(
     Ok(())
 }
 
-/// Adds the numbers that are listed for what happens to a fact of an id.
+/// Adds the numbers listed for a change of a fact with this id.
 #[inline(always)]
 fn push_fact<A: Allocator + Copy>(
     index: &WatchIndex<A>,
@@ -138,7 +139,7 @@ fn push_fact<A: Allocator + Copy>(
     }
 }
 
-/// Adds the numbers that are listed for what happens to facts whose ids a pattern matches.
+/// Adds the numbers listed for a change of facts whose ids match a pattern.
 #[inline(always)]
 fn push_pattern<A: Allocator + Copy>(
     index: &WatchIndex<A>,
@@ -155,7 +156,7 @@ fn push_pattern<A: Allocator + Copy>(
     index.push_listed(&Occasion::Fact(way, Pattern { first, second }), numbers)
 }
 
-/// Puts numbers in order, each once.
+/// Sorts the numbers and drops duplicates.
 pub(crate) fn put_in_order<A: Allocator>(numbers: &mut ShortNumbers<A>)
     ensures ascend { IsStrictlyIncreasing numbers.new.items }
     ensures same { (n : ℕ) → Contains numbers.new.items n ↔ Contains numbers.old.items n }

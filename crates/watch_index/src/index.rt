@@ -1,4 +1,4 @@
-//! For each thing that may happen, the stored queries that look out for it.
+//! For each kind of change, the stored queries that listen for it.
 ghost use Rattle.std.specs.Prelude.{◌≡◌, ◌↔◌, ◌++◌, [], ℕ, Contains, OnErr, OnOk, false, flat_map};
 ghost use Rattle.std.specs.List.Sorted.{IsStrictlyIncreasing};
 ghost use Rattle.watch_index.specs.Listed.{Adds, AreSame, Drops, is_among, is_listed, listed};
@@ -16,15 +16,15 @@ use std::alloc::{AllocError, Allocator, Global};
 use std::hash::RandomState;
 use std::marker::Model;
 
-/// For each thing that may happen, the numbers of the stored queries that look out for it.
+/// For each kind of change (an `Occasion`), the numbers of the stored queries that listen for it.
 ///
-/// `enter` and `leave` take time in the things that a stored query looks out for, and at most one move for each 64
-/// numbers of a list that go side by side. `led` takes time in what has happened and in the numbers that it answers,
-/// whatever else is stored. `leave` takes no memory.
+/// `enter` and `leave` take time in the number of occasions of the stored query, and for each of their lists at most
+/// one move for every 64 numbers that lie side by side. `led` takes time in the number of changes and of the numbers
+/// that it answers, however many other queries are stored. `leave` takes no memory.
 #[derive(Drop)]
 pub struct WatchIndex<A: Allocator = Global> {
     lists: Lists<A>,
-    // A mark is cleared only with all others, when the index gets empty.
+    // A mark is cleared only together with all others, when the index becomes empty.
     marks: Marks,
 }
 
@@ -39,8 +39,8 @@ impl<A: Allocator> Model for WatchIndex<A> {
 }
 
 impl<A: Allocator + Copy> WatchIndex<A> {
-    /// An index without stored queries, which hashes what they look out for with these random keys. It takes no memory
-    /// before the first.
+    /// An index without stored queries, which hashes occasions with these random keys. It takes no memory until the
+    /// first query is entered.
     pub fn new(alloc: A, random: RandomState) -> Self
         ensures { result ≡ [] }
     {
@@ -50,7 +50,7 @@ impl<A: Allocator + Copy> WatchIndex<A> {
         }
     }
 
-    /// Enters a stored query under a number that none has, with all that it looks out for.
+    /// Enters a stored query under a number that isn't in use, for each occasion that it listens for.
     ///
     /// Where memory is refused, each list has the same numbers as before.
     pub fn enter(&mut self, number: u64, occasions: &[Occasion]) -> Result<(), AllocError>
@@ -66,9 +66,9 @@ impl<A: Allocator + Copy> WatchIndex<A> {
         Ok(())
     }
 
-    /// Puts into an empty list the numbers of the stored queries that look out for something that has happened, in
-    /// ascending order.
-    /// The list stays where it is, as a move of it would take more than all else where no stored query is led to.
+    /// Puts the numbers of the stored queries that listen for one of these changes into an empty list, in ascending
+    /// order. Fails where memory is refused. The list is filled in place: where no query listens, to move it would take
+    /// longer than all the rest.
     #[inline(always)]
     pub fn led(
         &self,
@@ -87,7 +87,7 @@ impl<A: Allocator + Copy> WatchIndex<A> {
         Ok(())
     }
 
-    /// Adds the numbers that are listed for an occasion. What has no mark isn't looked up.
+    /// Adds the numbers listed for an occasion. An occasion without a mark isn't looked up.
     #[inline(always)]
     pub(crate) fn push_listed(
         &self,
@@ -97,7 +97,7 @@ impl<A: Allocator + Copy> WatchIndex<A> {
         ensures { OnOk result (numbers.new.items ≡ numbers.old.items ++ listed self.now occasion.now) }
     {
         if self.marks.has(occasion) {
-            // (a copy of its own, so that what isn't looked up needn't stand in memory)
+            // (a copy, so that an occasion that isn't looked up needn't be kept in memory)
             let wanted = *occasion;
             return push_list(&self.lists, &wanted, numbers);
         }
@@ -106,7 +106,7 @@ impl<A: Allocator + Copy> WatchIndex<A> {
 }
 
 impl<A: Allocator> WatchIndex<A> {
-    /// Takes out the stored query of a number, with all that it looks out for.
+    /// Takes the stored query of a number out of the lists of its occasions. It takes no memory.
     pub fn leave(&mut self, number: u64, occasions: &[Occasion])
         ensures { Drops self.old self.new (is_among occasions.now) number }
     {

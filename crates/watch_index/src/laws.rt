@@ -2,7 +2,7 @@
 
 ghost use Rattle.watch_index.specs.Laws.{WhomChangesConcernTheyLeadTo};
 
-/// Law: each stored query that what has changed may concern looks out for some of it.
+/// Law: each stored query that the changes may concern listens for one of them.
 pub fn whom_changes_concern_they_lead_to()
     ensures { WhomChangesConcernTheyLeadTo }
 {}

@@ -1,13 +1,14 @@
-//! Which stored queries may be notified of a command, by what they look out for, and in which order they stand.
+//! Which stored queries a command may concern, found by the kinds of change that they listen for, in the order in which
+//! they were stored.
 //!
 //! ```text
 //! let mut index = WatchIndex::new(rt.alloc(), RandomState::new(&rt)?);
 //!
-//! // a stored query under its number, with all that it looks out for
+//! // a stored query under its number, with the occasions that it listens for
 //! let occasions = occasions_of(rt.alloc(), StoredKind::Monitor, &query, is_anchored(&query))?;
 //! index.enter(7, occasions.as_slice())?;
 //!
-//! // the numbers of those that look out for something that a command did
+//! // the numbers of those that listen for a change of a command
 //! let mut numbers = ShortNumbers::new();
 //! index.led(happened, &mut numbers)?;
 //! for number in numbers.as_slice() { .. }

@@ -1,4 +1,4 @@
-//! The list of numbers of each occasion.
+//! The list of numbers for each occasion.
 ghost use Rattle.std.specs.Prelude.{◌≡◌, ◌++◌, OnErr, OnOk};
 ghost use Rattle.std.specs.Map.{lookup};
 ghost use Rattle.std.specs.Option.{option_copied};
@@ -12,13 +12,13 @@ use secret_hashing::Hashing;
 use short_list::ShortNumbers;
 use std::alloc::{AllocError, Allocator};
 
-// No list is empty: the entry of an occasion goes with the last number of its list.
+// No list is empty: the entry of an occasion is removed with the last number of its list.
 pub type Lists<A> = IndexMap<Occasion, Numbers<A>, Hashing, A>;
 
-/// So few lists are gone through: a hash of the occasion takes more.
+/// Up to so many lists are searched one by one: to hash the occasion would take longer.
 const FEW_LISTS: usize = 8;
 
-/// Puts the number into the list of the occasion, where it isn't in it.
+/// Puts the number into the list of the occasion, unless it is there.
 fn list<A: Allocator + Copy>(
     lists: &mut Lists<A>,
     occasion: &Occasion,
@@ -36,7 +36,7 @@ fn list<A: Allocator + Copy>(
     Ok(())
 }
 
-/// Takes the number out of the list of the occasion, where it is in it.
+/// Takes the number out of the list of the occasion, if it is there.
 fn unlist<A: Allocator>(lists: &mut Lists<A>, occasion: &Occasion, number: u64)
     ensures { Drops lists.old.entries lists.new.entries (occasion_eq occasion.now) number }
 {
@@ -49,7 +49,7 @@ fn unlist<A: Allocator>(lists: &mut Lists<A>, occasion: &Occasion, number: u64)
     }
 }
 
-/// Puts the number into the lists of the occasions. After an error it is in some of them.
+/// Puts the number into the list of each of these occasions. After an error some of the lists have it.
 pub fn list_all<A: Allocator + Copy>(
     lists: &mut Lists<A>,
     occasions: &[Occasion],
@@ -64,7 +64,7 @@ pub fn list_all<A: Allocator + Copy>(
     Ok(())
 }
 
-/// Takes the number out of the lists of the occasions.
+/// Takes the number out of the list of each of these occasions.
 pub fn unlist_all<A: Allocator>(lists: &mut Lists<A>, occasions: &[Occasion], number: u64)
     ensures { Drops lists.old.entries lists.new.entries (is_among occasions.now) number }
 {
@@ -73,7 +73,7 @@ pub fn unlist_all<A: Allocator>(lists: &mut Lists<A>, occasions: &[Occasion], nu
     }
 }
 
-/// Adds the numbers of the list of an occasion, if it has one.
+/// Appends the numbers listed for an occasion.
 pub fn push_list<A: Allocator + Copy>(
     lists: &Lists<A>,
     occasion: &Occasion,
@@ -98,7 +98,7 @@ fn find_list<'l, A: Allocator>(lists: &'l Lists<A>, occasion: &Occasion) -> Opti
     find_among(lists, occasion)
 }
 
-/// The same, where all lists are gone through.
+/// The same, by a search through all lists.
 #[inline(always)]
 fn find_among<'l, A: Allocator>(lists: &'l Lists<A>, occasion: &Occasion) -> Option<&'l Numbers<A>>
     ensures { option_copied result ≡ lookup (occasion_eq occasion.now) lists.now.entries }
@@ -114,7 +114,7 @@ fn find_among<'l, A: Allocator>(lists: &'l Lists<A>, occasion: &Occasion) -> Opt
     None
 }
 
-/// Whether two occasions are one.
+/// Whether two occasions are equal.
 #[inline(always)]
 fn is_same(one: &Occasion, other: &Occasion) -> bool
     ensures { result ≡ occasion_eq one.now other.now }

@@ -1,4 +1,4 @@
-//! A mark for each thing that is looked out for.
+//! A mark for each occasion that some stored query listens for.
 ghost use Rattle.std.specs.Prelude.{◌≡◌, ◌<◌, ◌≤◌, ◌==◌, ◌||◌, ℕ, false};
 ghost use Rattle.watch_index.specs.Listed.{shares_mark};
 ghost use Rattle.ecs_model.specs.BitWords.{has_bit};
@@ -8,17 +8,18 @@ ghost use Rattle.watch_index.specs.declared.occasion.Occasion.{Occasion as Await
 use crate::occasion::{Occasion, Way};
 use component_index::{Part, Pattern};
 
-/// Marks of occasions, some of which share one: whatever has no mark is looked out for by none.
+/// Marks of occasions, where several occasions may share one. If the mark of an occasion isn't set, no stored query
+/// listens for it.
 ///
-/// To ask for one takes a handful of instructions, and no hash.
+/// To test a mark takes a handful of instructions, and no hash.
 #[derive(Clone, Copy)]
 pub struct Marks {
-    /// The bit of a mark `m` is bit `m % 64` of the word `m / 64`.
+    /// Mark `m` is bit `m % 64` of word `m / 64`.
     pub words: [u64; 64],
 }
 
 impl Marks {
-    /// None is set.
+    /// Marks of which none is set.
     pub fn none() -> Self
         ensures { (o : Awaited) → has_bit result.words (mark_of o) ≡ false }
     {
@@ -34,7 +35,7 @@ impl Marks {
         self.words[(mark / 64) as usize] >> (mark % 64) & 1 == 1
     }
 
-    /// Sets the marks of these occasions, and no others.
+    /// Sets the marks of these occasions, and changes no others.
     pub fn set_all(&mut self, occasions: &[Occasion])
         ensures { (m : ℕ) → has_bit self.new.words m ≡ (has_bit self.old.words m || shares_mark occasions.now m) }
     {
@@ -52,8 +53,7 @@ impl Marks {
     }
 }
 
-/// The mark of an occasion. Indexes that follow one another are spread over all marks, and so are most that are chosen
-/// otherwise.
+/// The mark of an occasion. Consecutive indexes, and most others, are spread over all marks.
 #[inline(always)]
 fn mark_of(occasion: &Occasion) -> u32
     ensures mark { result ≡ mark_of occasion.now }

@@ -29,7 +29,7 @@ use std::hash::RandomState;
 /// A value under its name.
 #[derive(Drop)]
 pub struct Named<V, A: Allocator> {
-    /// It rises from each value to the next, and stays.
+    /// The number of a value is greater than that of each value before it, and never changes.
     pub number: u64,
     pub name: String<A>,
     pub value: V,
@@ -37,19 +37,19 @@ pub struct Named<V, A: Allocator> {
 
 /// Values in the order in which they were put in, each found by its name.
 ///
-/// A look-up takes the time of a hash of the name and of a search by halves. A value that is taken out moves no other:
-/// of each after it a pointer moves.
+/// A look-up hashes the name and then searches by halves. A removal moves no other value, only a pointer for each value
+/// after it.
 #[derive(Drop)]
 pub struct NameOrder<V, A: Allocator> {
-    /// In boxes, so that a removal moves none of those after it but its pointer. Values may be written, and nothing
-    /// else.
+    /// In boxes, so that a removal moves a pointer and not the value. The values may be written, and nothing else.
     pub made: Vec<Box<Named<V, A>, A>, A>,
-    // the number of each by its name
+    // the number of each value by its name
     numbers: IndexMap<String<A>, u64, Hashing, A>,
 }
 
 impl<V, A: Allocator + Copy> NameOrder<V, A> {
-    /// An order without values, which hashes names with these random keys. It takes no memory before the first.
+    /// An order without values, which hashes names with these random keys. It takes no memory until the first value
+    /// comes.
     pub fn new(alloc: A, random: RandomState) -> Self
         ensures none { result.made.items ≡ [] }
         ensures order { IsInOrder result }
@@ -60,9 +60,9 @@ impl<V, A: Allocator + Copy> NameOrder<V, A> {
         }
     }
 
-    /// Makes a value ready to be put after the others, in a box and beside its name as a key, and makes room for it.
+    /// Makes a value ready for `put`: in a box, with its name as a key, and with room for both.
     ///
-    /// Fails where memory is refused, and then the order has what it had.
+    /// Fails where memory is refused; then the order has what it had.
     pub fn prepare(
         &mut self,
         alloc: A,
@@ -96,7 +96,7 @@ impl<V, A: Allocator> NameOrder<V, A> {
         self.made.len()
     }
 
-    /// Where the value of a name stands.
+    /// The place of the value with a name.
     pub fn place_of(&self, name: &str) -> Option<usize>
         requires order { IsInOrder self.now }
         ensures { IsPlaceOf name.now self.now.made.items result }
@@ -107,7 +107,7 @@ impl<V, A: Allocator> NameOrder<V, A> {
         self.place_of_number(*number)
     }
 
-    /// Where the value of a number stands.
+    /// The place of the value with a number.
     pub fn place_of_number(&self, number: u64) -> Option<usize>
         requires order { IsInOrder self.now }
         ensures { StandsAt number self.now.made.items result }
@@ -118,7 +118,7 @@ impl<V, A: Allocator> NameOrder<V, A> {
         }
     }
 
-    /// The value of a name.
+    /// The value with a name.
     pub fn get(&self, name: &str) -> Option<&V>
         requires order { IsInOrder self.now }
         ensures { option_copied result ≡ lookup (is_key name.now) (entries_of self.now) }
@@ -129,7 +129,7 @@ impl<V, A: Allocator> NameOrder<V, A> {
         }
     }
 
-    /// Whether there is a value of a name.
+    /// Whether a value has this name.
     pub fn contains_key(&self, name: &str) -> bool
         requires order { IsInOrder self.now }
         ensures { result ≡ is_some (lookup (is_key name.now) (entries_of self.now)) }
@@ -149,7 +149,7 @@ impl<V, A: Allocator> NameOrder<V, A> {
         Some((&made.name, &made.value))
     }
 
-    /// Makes room for one more, and gives a number for it.
+    /// Makes room for one more value, and gives a number for it.
     fn reserve(&mut self) -> Result<u64, AllocError>
         requires order { IsInOrder self.old }
         ensures same { self.new.made.items ≡ self.old.made.items }
@@ -162,7 +162,7 @@ impl<V, A: Allocator> NameOrder<V, A> {
         self.next_number()
     }
 
-    /// A number above all of theirs.
+    /// A number greater than each in use.
     fn next_number(&self) -> Result<u64, AllocError>
         requires order { IsInOrder self.now }
         ensures { IfOk result (λ number. All (λ b. number_in b < number) self.now.made.items) }
@@ -176,7 +176,7 @@ impl<V, A: Allocator> NameOrder<V, A> {
         }
     }
 
-    /// Puts a value that was made ready after the others. None of them has its name.
+    /// Appends a value that `prepare` made ready. No other value has its name.
     pub fn put(&mut self, key: String<A>, made: Box<Named<V, A>, A>)
         requires order { IsInOrder self.old }
         requires ready { IsReady self.old made.value.name made.value.value (key, made) }
@@ -188,7 +188,7 @@ impl<V, A: Allocator> NameOrder<V, A> {
         self.made.push_reserved(made);
     }
 
-    /// Takes out the value of a name. Those after it close the gap, by moves of pointers.
+    /// Removes the value with a name and returns it. Those after it close the gap by moves of pointers.
     pub fn remove(&mut self, name: &str) -> Option<Box<Named<V, A>, A>>
         requires order { IsInOrder self.old }
         ensures value { option_map (λ b. b.value.value) result ≡ lookup (is_key name.now) (entries_of self.old) }

@@ -1,4 +1,4 @@
-//! The numbers of the stored queries that look out for one thing.
+//! The numbers of the stored queries that listen for one occasion.
 ghost use Rattle.std.specs.Prelude.{◌≡◌, ◌==◌, ◌∷◌, ◌++◌, [], ℕ, true, cond, IfOk, IsTrue, OnErr, OnOk, ◌↔◌, length};
 ghost use Rattle.watch_index.specs.Listed.{Loses, has};
 
@@ -7,11 +7,11 @@ use short_list::ShortNumbers;
 use std::alloc::{AllocError, Allocator};
 use std::marker::Model;
 
-/// Numbers in ascending order, each once, as the bits of words. These move only where one comes, or goes with its last
-/// number.
+/// Numbers in ascending order without duplicates, kept as the bits of words. A word is moved only when another one
+/// comes or goes.
 #[derive(Drop)]
 pub struct Numbers<A: Allocator> {
-    // None is empty, and their blocks rise.
+    // No word is empty, and their blocks ascend.
     words: Vec<Word, A>,
 }
 
@@ -27,7 +27,7 @@ impl<A: Allocator> Model for Numbers<A> {
 }
 
 impl<A: Allocator> Numbers<A> {
-    /// One number.
+    /// Exactly this number.
     pub fn one(alloc: A, number: u64) -> Result<Self, AllocError>
         ensures { IfOk result (λ numbers. numbers ≡ number ∷ []) }
     {
@@ -42,7 +42,7 @@ impl<A: Allocator> Numbers<A> {
         self.words.is_empty()
     }
 
-    /// Puts a number in its place, unless it is there.
+    /// Adds a number, unless it is there. Fails where memory is refused; then nothing has changed.
     pub fn insert(&mut self, number: u64) -> Result<(), AllocError>
         ensures inserted { OnOk result ((n : ℕ) → has self.new n ≡ cond (number == n) true (has self.old n)) }
         ensures refused { OnErr result (self.new ≡ self.old) }
@@ -60,7 +60,7 @@ impl<A: Allocator> Numbers<A> {
         }
     }
 
-    /// Takes a number out, where it is there.
+    /// Removes a number, if it is there.
     pub fn remove(&mut self, number: u64)
         ensures { Loses self.old self.new number }
     {
@@ -77,7 +77,7 @@ impl<A: Allocator> Numbers<A> {
 }
 
 impl<A: Allocator + Copy> Numbers<A> {
-    /// Adds them to a list.
+    /// Appends the numbers to a list.
     pub fn push_to(&self, alloc: A, numbers: &mut ShortNumbers<A>) -> Result<(), AllocError>
         ensures { OnOk result (numbers.new.items ≡ numbers.old.items ++ self.now) }
     {

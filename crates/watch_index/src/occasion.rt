@@ -1,23 +1,23 @@
-//! What may happen that a stored query looks out for.
+//! The kinds of change that a stored query may listen for.
 
 use component_index::Pattern;
 
-/// What happens to a fact.
+/// How a fact changes.
 #[derive(Clone, Copy, Debug, PartialEq, Eq, Hash)]
 pub enum Way {
-    /// It comes or goes.
+    /// It is added or removed.
     Moves,
     /// Its value is set.
     IsWritten,
 }
 
-/// What may happen that a stored query looks out for.
+/// A kind of change that a stored query may listen for.
 #[derive(Clone, Copy, Debug, PartialEq, Eq, Hash)]
 pub enum Occasion {
-    /// An entity is born or dies.
+    /// An entity is created or deleted.
     Life,
-    /// A fact comes or goes of a tag that concerns every query.
+    /// A fact with a tag that concerns every query is added or removed.
     AskedByAll,
-    /// This happens to a fact whose id the pattern matches.
+    /// A fact whose id matches the pattern changes in this way.
     Fact(Way, Pattern),
 }

@@ -1,4 +1,4 @@
-//! What a stored query looks out for.
+//! The occasions that a stored query listens for.
 ghost use Rattle.std.specs.Prelude.{◌≡◌, ◌++◌, IfOk, OnOk, flat_map};
 ghost use Rattle.query_check.specs.Terms.{terms};
 ghost use Rattle.watch_concerns.specs.Anchored.{is_anchored};
@@ -11,8 +11,8 @@ use query_check::Query;
 use query_model::query::{Ref, Term};
 use std::alloc::{AllocError, Allocator};
 
-/// All that a stored query of a kind looks out for: nothing else changes its rows or is in its events. Takes whether
-/// the query is anchored.
+/// All occasions that a stored query of a kind listens for: no other change alters its rows or is among its events.
+/// `anchored` says whether the query is anchored.
 ///
 /// Fails where memory is refused.
 pub fn occasions_of<A: Allocator>(
@@ -32,7 +32,7 @@ pub fn occasions_of<A: Allocator>(
     }
 }
 
-/// What a monitor looks out for.
+/// The occasions of a monitor.
 fn of_monitor<A: Allocator>(
     alloc: A,
     query: &Query<A>,
@@ -49,7 +49,7 @@ fn of_monitor<A: Allocator>(
     Ok(found)
 }
 
-/// What the terms of a query ask.
+/// The occasions of a query's terms.
 fn of_terms<A: Allocator>(
     alloc: A,
     query: &Query<A>,
@@ -75,7 +75,8 @@ fn push_terms<A: Allocator>(
     Ok(())
 }
 
-/// Adds what a term asks: the ids that it may match, the pairs along which it goes up, and those that it follows.
+/// Adds the occasions of a term: the ids that it may match, the pairs along which it goes up, and the pairs that it
+/// follows.
 fn push_term<A: Allocator>(
     term: &Term,
     way: Way,
@@ -93,7 +94,7 @@ fn push_term<A: Allocator>(
     Ok(())
 }
 
-/// The pattern of all ids that a term may match, whatever variables stand for.
+/// The pattern of all ids that a term may match; a variable may stand for any entity.
 fn pattern_of(first: Ref, target: Option<Ref>) -> Pattern
     ensures { result ≡ pattern_of first target }
 {
@@ -113,7 +114,7 @@ fn pairs_of(relationship: Part) -> Pattern
     }
 }
 
-/// What a reference may stand for, whatever variables do.
+/// What a reference may stand for; a variable may stand for any entity.
 fn part_of(reference: Ref) -> Part
     ensures { result ≡ part_of reference }
 {

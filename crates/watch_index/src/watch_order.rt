@@ -1,4 +1,4 @@
-//! Values under names, in the order in which they were put in, each with what it looks out for.
+//! Values under names, in the order in which they were put in, each with the occasions that it listens for.
 //!
 //! ```text
 //! let mut stored = WatchOrder::new(rt.alloc(), RandomState::new(&rt)?);
@@ -7,7 +7,7 @@
 //! let (key, made) = stored.prepare(rt.alloc(), name, Watcher { occasions, value })?;
 //! stored.put(key, made);
 //!
-//! // the places of those that look out for something that a command did
+//! // the places of those that listen for a change of a command
 //! let mut places = ShortNumbers::new();
 //! stored.led(rt.alloc(), happened, &mut places)?;
 //! for place in places.as_slice() { .. }
@@ -27,26 +27,26 @@ use short_list::ShortNumbers;
 use std::alloc::{AllocError, Allocator};
 use std::hash::RandomState;
 
-/// A value with what it looks out for.
+/// A value with the occasions that it listens for.
 #[derive(Drop)]
 pub struct Watcher<V, A: Allocator> {
     pub occasions: Vec<Occasion, A>,
     pub value: V,
 }
 
-/// It in a box, under its name.
+/// A value with its occasions in a box, under its name.
 pub type Boxed<V, A> = Box<Named<Watcher<V, A>, A>, A>;
 
-/// Values in the order in which they were put in, and an index of what they look out for.
+/// Values in the order in which they were put in, and an index of the occasions that they listen for.
 #[derive(Drop)]
 pub struct WatchOrder<V, A: Allocator> {
-    /// Values may be written, and what they look out for stays.
+    /// The values may be written; their occasions stay.
     pub order: NameOrder<Watcher<V, A>, A>,
     index: WatchIndex<A>,
 }
 
 impl<V, A: Allocator + Copy> WatchOrder<V, A> {
-    /// An order without values, which hashes names and what is looked out for with these random keys.
+    /// An order without values, which hashes names and occasions with these random keys.
     pub fn new(alloc: A, random: RandomState) -> Self
         ensures none { result.order.made.items ≡ [] }
         ensures watched { IsWatched result }
@@ -57,10 +57,10 @@ impl<V, A: Allocator + Copy> WatchOrder<V, A> {
         }
     }
 
-    /// Makes a value ready to be put after the others, and lists it for what it looks out for. Then it is put or
-    /// forgotten.
+    /// Makes a value ready for `put`, and lists it for its occasions. It has to be put next: until then the index lists
+    /// a value that isn't there.
     ///
-    /// Fails where memory is refused, and then nothing has changed.
+    /// Fails where memory is refused; then nothing has changed.
     pub fn prepare(
         &mut self,
         alloc: A,
@@ -80,9 +80,9 @@ impl<V, A: Allocator + Copy> WatchOrder<V, A> {
         Ok((key, made))
     }
 
-    /// Puts into an empty list the places of the values that look out for something that has happened, in order.
+    /// Puts the places of the values that listen for one of these changes into an empty list, in ascending order.
     ///
-    /// Takes time in what has happened and in the values that are led to, whatever else is stored. Fails where memory
+    /// Takes time in the number of changes and of the values found, however many others are stored. Fails where memory
     /// is refused.
     pub fn led(
         &self,
@@ -104,8 +104,8 @@ impl<V, A: Allocator + Copy> WatchOrder<V, A> {
         Ok(())
     }
 
-    /// Puts into an empty list where values with these numbers stand. Numbers rise with places, so the places of
-    /// ascending numbers ascend.
+    /// Puts the places of the values with these numbers into an empty list. Numbers ascend with places, so for
+    /// ascending numbers the places ascend too.
     fn push_places(
         &self,
         alloc: A,
@@ -129,7 +129,7 @@ impl<V, A: Allocator + Copy> WatchOrder<V, A> {
 }
 
 impl<V, A: Allocator> WatchOrder<V, A> {
-    /// Puts a value that was made ready after the others. None of them has its name.
+    /// Appends a value that `prepare` made ready. No other value has its name.
     pub fn put(&mut self, key: String<A>, made: Boxed<V, A>)
         requires open { IsOpen self.old made.value.name made.value.value (key, made) }
         requires free { lookup (is_key (string_bytes made.value.name)) (entries_of self.old.order) ≡ None }
@@ -139,7 +139,7 @@ impl<V, A: Allocator> WatchOrder<V, A> {
         self.order.put(key, made);
     }
 
-    /// Takes out the value of a name, with what it looks out for. It takes no memory.
+    /// Removes the value with a name, and its occasions from the index. It takes no memory.
     pub fn remove(&mut self, name: &str) -> Option<Boxed<V, A>>
         requires watched { IsWatched self.old }
         ensures value { option_map (λ b. b.value.value) result ≡ lookup (is_key name.now) (entries_of self.old.order) }

@@ -8,8 +8,7 @@ ghost use Rattle.watch_index.specs.Words.{Fits, IsBefore, IsPlaceFor, IsWordOf, 
 use short_list::ShortNumbers;
 use std::alloc::{AllocError, Allocator};
 
-/// Those of the 64 numbers of a block whose bits are set. A number `n` is of the block `n / 64`, and its bit is
-/// bit `n % 64`.
+/// The numbers of one block of 64 whose bits are set. Number `n` belongs to block `n / 64`, as bit `n % 64`.
 #[derive(Clone, Copy)]
 pub struct Word {
     block: u64,
@@ -17,7 +16,7 @@ pub struct Word {
 }
 
 impl Word {
-    /// Of one number.
+    /// A word with exactly this number.
     pub fn one(number: u64) -> Self
         ensures block { result.block ≡ number / 64 }
         ensures fits { Fits result }
@@ -29,7 +28,7 @@ impl Word {
         }
     }
 
-    /// With one more number of its block.
+    /// The word with one more number of its block.
     pub fn with(self, number: u64) -> Self
         requires block { self.block ≡ number / 64 }
         ensures block { result.block ≡ self.block }
@@ -41,7 +40,7 @@ impl Word {
         }
     }
 
-    /// Without a number of its block.
+    /// The word without a number of its block.
     pub fn without(self, number: u64) -> Self
         requires block { self.block ≡ number / 64 }
         ensures block { result.block ≡ self.block }
@@ -53,7 +52,7 @@ impl Word {
         }
     }
 
-    /// Whether it has no number.
+    /// Whether the word has no number.
     pub fn is_empty(self) -> bool
         ensures { IsTrue result ↔ (numbers_of self ≡ []) }
     {
@@ -61,7 +60,7 @@ impl Word {
     }
 }
 
-/// Where among words that of a block stands, or where it would.
+/// The place of a block's word among these, or the place where it would go.
 pub fn find(words: &[Word], block: u64) -> Result<usize, usize>
     requires { AllPairs IsBefore words.now }
     ensures found { IfOk result (IsWordOf words.now block) }
@@ -70,7 +69,7 @@ pub fn find(words: &[Word], block: u64) -> Result<usize, usize>
     words.binary_search_by_key(&block, |word| word.block)
 }
 
-/// Adds the numbers of words to a list.
+/// Appends the numbers of words to a list.
 pub fn push_all<A: Allocator + Copy>(
     words: &[Word],
     alloc: A,
@@ -85,7 +84,7 @@ pub fn push_all<A: Allocator + Copy>(
     Ok(())
 }
 
-/// Adds the numbers of a word to a list, the least first.
+/// Appends the numbers of a word to a list, in ascending order.
 #[inline(always)]
 fn push_word<A: Allocator + Copy>(
     word: Word,
