@@ -25,24 +25,25 @@ use Rattle.watch_asked.specs.declared.asked.AskedTerm.{AskedTerm}
 use Rattle.watch_asked.specs.declared.asked.AskedTerms.{AskedTerms}
 use Rattle.watch_asked.specs.declared.steps.LinkStep.{LinkStep}
 
--- what a reference may stand for, whatever variables do
+-- what a reference may stand for; a variable may stand for any entity
 abbrev pub part_of : Ref → Part
 part_of (Is e) = part.Is e
 part_of (Var v) = part.Any
 part_of Any = part.Any
 part_of AnyOnce = part.Any
 
--- ---- what a term asks for
+-- ---- the ids for which a term asks
 
--- the ids that it may match, whatever variables stand for
+-- the ids that it may match; a variable may stand for any entity
 abbrev pub asked_by : Ref → Option Ref → Pattern
 asked_by first target = record { first = part_of first; second = option_map part_of target }
 
--- the pairs of a relationship, whatever their target
+-- all pairs of a relationship
 abbrev pub pairs_of : Ref → Pattern
 pairs_of r = record { first = part_of r; second = Some part.Any }
 
--- those along which it asks ancestors, and those that it follows
+-- the pairs along which a term goes up to ancestors, and all patterns of a term: the ids that it may match, those
+-- pairs, and the pairs that it follows
 abbrev pub up_asks : Option ℕ → List Pattern
 up_asks None = []
 up_asks (Some r) = pairs_of (Is r) ∷ []
@@ -50,21 +51,21 @@ up_asks (Some r) = pairs_of (Is r) ∷ []
 abbrev pub asks_by : Term → List Pattern
 asks_by t = asked_by t.component t.target ∷ (up_asks t.up ++ (if t.closed then pairs_of t.component ∷ [] else []))
 
--- that it asks for this: whether it asks `$this`, itself or its ancestors, and whether it asks these
+-- a pattern of a term: whether the term tests `$this` or its ancestors, and whether it tests the ancestors
 abbrev pub asked_term : Term → Pattern → AskedTerm
 asked_term t p = record { asked = p; this = asks_this_stored t; below = asks_this_stored t && is_some t.up }
 
 abbrev pub asked_terms : Term → List AskedTerm
 asked_terms t = map (asked_term t) (asks_by t)
 
--- what it asks the entity of a variable for
+-- the patterns for which a term asks the entity of a variable
 abbrev pub asks_of : ℕ → Term → List Pattern
 asks_of v t = if is_variable v t.source then asks_by t else []
 
--- ---- from the entities of which variables terms lead to those of which others
+-- ---- from the entity of one variable to the entity of another
 
--- by pairs of the source's entity whose target is the target's entity: from the earlier of the two variables to the
--- later
+-- by pairs whose holder is the entity of `source` and whose target is the entity of `target`: always from the earlier
+-- variable to the later
 abbrev pub steps_between : ℕ → ℕ → Pattern → List LinkStep
 steps_between source target p =
     if nat_lt source target then record { from = source; to = target; asked = p; outward = true } ∷ []
@@ -80,11 +81,11 @@ steps_by (Is e) target p = []
 steps_by Any target p = []
 steps_by AnyOnce target p = []
 
--- how a term leads, that asks the entity of a variable itself
+-- the step of a term that tests the entity of a variable itself
 abbrev pub steps_of : Term → List LinkStep
 steps_of t = if is_none t.up && not t.closed then steps_by t.source t.target (asked_by t.component t.target) else []
 
--- ---- what the entity of a variable has to hold itself
+-- ---- the ids that the entity of a variable itself has to hold
 
 abbrev pub item_needs : ℕ → Item → List Pattern
 item_needs v (must t) = if asks_itself v t then asked_by t.component t.target ∷ [] else []
@@ -98,21 +99,22 @@ piece_needs v (item x) = item_needs v x
 piece_needs v (opening from_term own) = []
 piece_needs v closing = []
 
--- by items in no group of those that are opened here. The pieces are those of a whole query, or of a group up to its end
+-- those that items directly in the level require. The pieces are those of a whole query, or begin with a group and are
+-- read up to its end
 abbrev pub needs_from : ℕ → Bool → ℕ → List Piece → List Pattern
 needs_from v whole depth [] = []
 needs_from v whole depth (p ∷ ps) =
     if depth == 0 && not whole && is_end p then []
     else (if depth == 0 then piece_needs v p else []) ++ needs_from v whole (depth_behind depth p) ps
 
--- by items before all groups, of `$this`
+-- those that items before the first group require of `$this`
 abbrev pub needs_in_front : List Piece → List Pattern
 needs_in_front [] = []
 needs_in_front (item x ∷ ps) = item_needs 0 x ++ needs_in_front ps
 needs_in_front (opening from_term own ∷ ps) = []
 needs_in_front (closing ∷ ps) = []
 
--- ---- what ids alone may decide
+-- ---- what own ids alone may decide
 
 abbrev pub may_be_met : Item → Bool
 may_be_met (must t) = asks_first t && is_constant t.component && is_constant_target t.target
@@ -121,43 +123,42 @@ may_be_met (either ts) = true
 may_be_met (equal v r) = false
 may_be_met (differ v r) = false
 
--- whether each item before all groups may be met by the ids of `$this`
+-- whether the own ids of `$this` may meet each item before the first group
 abbrev pub may_meet : List Piece → Bool
 may_meet [] = true
 may_meet (item x ∷ ps) = may_be_met x && may_meet ps
 may_meet (opening from_term own ∷ ps) = true
 may_meet (closing ∷ ps) = true
 
--- ---- what is known of ids
+-- ---- judging an id
 
--- for whom an id concerns a query, by what its terms ask for
+-- for which entities an id concerns a query, by the patterns of its terms
 abbrev pub one_concern : Id → AskedTerm → Concern
 one_concern i a = let m = matches a.asked i in record { anyone = m; others = not a.this && m; below = a.below && m }
 
 abbrev pub asked_concern : Id → List AskedTerm → Concern
 asked_concern i xs = record { anyone = list_any (λ a. matches a.asked i) xs; others = list_any (λ a. not a.this && matches a.asked i) xs; below = list_any (λ a. a.below && matches a.asked i) xs }
 
--- whether one of some patterns matches an id
+-- whether one of these patterns matches an id
 abbrev pub any_asked : List Pattern → Id → Bool
 any_asked ps i = list_any (λ p. matches p i) ps
 
--- whether each of some patterns matches one of some ids
+-- whether each of these patterns matches one of these ids
 abbrev pub have_all : List Pattern → List Id → Bool
 have_all ps ids = list_all (λ p. list_any (matches p) ids) ps
 
--- whether whoever has held these ids is asked for one as the entity of a variable: it has held all that this needs
+-- whether a variable's entity is asked for an id, and an entity that has held these ids has held each required id
 abbrev pub counts : {A : Type 0} → List Id → Id → AskedOf A → Bool
 counts ids i a = any_asked a.asks.items i && have_all a.needs.items ids
 
--- and whether it is so as the entity of a variable that passes a test
+-- and whether that is so for a variable that passes a test
 abbrev pub counts_as : {A : Type 0} → (ℕ → Bool) → List Id → Id → AskedOf A → Bool
 counts_as only ids i a = only a.variable && counts ids i a
 
 abbrev pub any_counts_as : {A : Type 0} → (ℕ → Bool) → List (AskedOf A) → List Id → Id → Bool
 any_counts_as only all ids i = list_any (counts_as only ids i) all
 
--- for the variables of a query that pass a test: what is asked of whom they stand for decides whether an id is idle
--- for these
+-- what is kept of the variables that pass a test decides whether an id is idle for them
 abbrev pub TellsIdle : {A : Type 0} → Query → List (AskedOf A) → Type 0
 TellsIdle q others = (only : ℕ → Bool) (ids : List Id) (i : Id) → any_counts_as only others ids i ≡ not (are_all_bound (λ v l. not (only v) || is_idle_for ids i (terms_of q) v l) q)
 
@@ -169,17 +170,18 @@ pub record IsAskedBy {A : Type 0} (q : Query) (asked : AskedTerms A) : Type 0 wh
   pub steps : asked.steps.items ≡ flat_map steps_of (terms_of q)
   pub met : asked.may_meet ≡ false → (ids : List Id) → meets q ids ≡ false
 
--- whether a variable doesn't pass a test, or is `$this`, or its entity isn't asked for an id, or these ids lack what an item asks of it directly in the level that begins with these pieces
+-- whether a variable doesn't pass the test, or is `$this`, or its entity isn't asked for the id, or these ids lack an
+-- id that an item directly in the level requires on it
 abbrev pub is_idle_from : (ℕ → Bool) → List Term → Bool → List Piece → List Id → Id → ℕ → Bool
 is_idle_from only ts whole ps ids i v = not (only v) || ((v == 0 || not (asks_for ts v i)) || passes_from (item_lacks_of ids v) whole 0 ps)
 
--- whether the own variables of the group that a piece opens before these are
+-- whether it is so for each own variable of the group that a piece opens before these pieces
 abbrev pub group_idle : (ℕ → Bool) → List Term → List Id → Id → Piece → List Piece → Bool
 group_idle only ts ids i (item x) ps = true
 group_idle only ts ids i (opening from_term own) ps = list_all (is_idle_from only ts false ps ids i) own
 group_idle only ts ids i closing ps = true
 
--- and those of each group
+-- and for those of each group
 abbrev pub groups_idle : (ℕ → Bool) → List Term → List Id → Id → List Piece → Bool
 groups_idle only ts ids i [] = true
 groups_idle only ts ids i (p ∷ ps) = group_idle only ts ids i p ps && groups_idle only ts ids i ps

@@ -1,4 +1,4 @@
-//! Patterns of ids, with the tests by which they are judged.
+//! Patterns of ids, each with a fast test.
 
 ghost use Rattle.std.specs.Prelude.{◌≡◌, ◌++◌, Some, map};
 ghost use Rattle.std.specs.List.{list_any};
@@ -12,7 +12,7 @@ use ecs_model::FactKey;
 use plan_steps::word_test::WordTest;
 use std::marker::Model;
 
-/// A pattern of ids, with the test by which it is judged.
+/// A pattern of ids, with a fast test for it.
 #[derive(Drop)]
 pub struct AskedId {
     pattern: Pattern,
@@ -38,7 +38,7 @@ impl AskedId {
         AskedId { pattern, test }
     }
 
-    /// The pairs of its relationship with this target.
+    /// The pairs of the pattern's relationship with this target.
     #[inline(always)]
     pub(crate) fn with_target(&self, target: u32) -> Pattern
         ensures { result ≡ record { first = self.now.first; second = Some (Is target) } }
@@ -70,7 +70,7 @@ pub(crate) fn any_asked(asked: &[AskedId], id: Id) -> bool
     false
 }
 
-/// Whether each of these patterns matches one of these ids, or that of one of these facts.
+/// Whether each of these patterns matches one of these ids, or the id of one of these facts.
 #[inline(always)]
 pub(crate) fn have_all(asked: &[AskedId], ids: &[Id], facts: &[FactKey]) -> bool
     ensures { result ≡ have_all asked.now (ids.now ++ map (λ k. k.1) facts.now) }
@@ -83,7 +83,7 @@ pub(crate) fn have_all(asked: &[AskedId], ids: &[Id], facts: &[FactKey]) -> bool
     true
 }
 
-/// Whether a pattern matches one of these ids, or that of one of these facts.
+/// Whether a pattern matches one of these ids, or the id of one of these facts.
 #[inline(always)]
 fn is_held(asked: &AskedId, ids: &[Id], facts: &[FactKey]) -> bool
     ensures { result ≡ list_any (matches asked.now) (ids.now ++ map (λ k. k.1) facts.now) }

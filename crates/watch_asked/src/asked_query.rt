@@ -1,4 +1,4 @@
-//! A query with what it asks, as it is judged.
+//! A query together with what it asks, for judging changed facts.
 
 ghost use Rattle.std.specs.Prelude.{◌≡◌, IfSome, List, false};
 ghost use Rattle.ecs_id.specs.Id as id_specs;
@@ -18,7 +18,7 @@ use watch_concerns::{
     Concern, NOBODY, concern_of, is_asked_by_all, joined_concerns, lacks, meets, says_how_far,
 };
 
-/// A query with what it asks, if that is kept. If not, each term is asked each time.
+/// A query, and what it asks if that is kept. Otherwise each call goes through the terms of the query.
 #[derive(Drop)]
 pub struct AskedQuery<'q, A: Allocator> {
     query: &'q Query<A>,
@@ -38,7 +38,7 @@ impl<'q, A: Allocator> Model for AskedQuery<'q, A> {
 }
 
 impl<'q, A: Allocator> AskedQuery<'q, A> {
-    /// A query with what it asks, if that is kept.
+    /// A query, and what it asks if that is kept.
     pub fn new(query: &'q Query<A>, terms: Option<&'q AskedTerms<A>>) -> Self
         requires asked { IfSome terms (λ terms. IsAskedBy query.now terms.now) }
         ensures { result ≡ query.now }
@@ -46,7 +46,7 @@ impl<'q, A: Allocator> AskedQuery<'q, A> {
         AskedQuery { query, terms }
     }
 
-    /// What it asks, if that is kept.
+    /// What the query asks, if that is kept.
     #[inline(always)]
     pub fn kept(&self) -> Option<&'q AskedTerms<A>>
         ensures { IfSome result (λ terms. IsAskedBy self.now terms.now) }
@@ -54,7 +54,7 @@ impl<'q, A: Allocator> AskedQuery<'q, A> {
         self.terms
     }
 
-    /// Whether an id concerns it.
+    /// Whether an id concerns the query.
     #[inline(always)]
     pub fn concerns(&self, id: Id) -> bool
         ensures { result ≡ concerns self.now id }
@@ -62,7 +62,7 @@ impl<'q, A: Allocator> AskedQuery<'q, A> {
         self.concern_of(id).anyone
     }
 
-    /// For whom an id concerns it.
+    /// For which entities an id concerns the query.
     #[inline(always)]
     pub fn concern_of(&self, id: Id) -> Concern
         ensures { result ≡ concern_of self.now id }
@@ -73,21 +73,21 @@ impl<'q, A: Allocator> AskedQuery<'q, A> {
         }
     }
 
-    /// Whether an id concerns it for others than its holder and those below that.
+    /// Whether an id concerns the query for entities besides its holder and those below it.
     pub fn concerns_others(&self, id: Id) -> bool
         ensures { result ≡ concerns_others self.now id }
     {
         self.concern_of(id).others
     }
 
-    /// Whether an id concerns it for those below its holder.
+    /// Whether an id concerns the query for the entities below its holder.
     pub fn concerns_below(&self, id: Id) -> bool
         ensures { result ≡ concerns_below self.now id }
     {
         self.concern_of(id).below
     }
 
-    /// Whether an entity with these ids lacks what it asks of `$this` itself.
+    /// Whether these ids lack an id that the query requires on `$this` itself.
     #[inline(always)]
     pub fn lacks(&self, ids: &[Id]) -> bool
         ensures { result ≡ lacks self.now ids.now }
@@ -98,7 +98,7 @@ impl<'q, A: Allocator> AskedQuery<'q, A> {
         }
     }
 
-    /// Whether an entity with these ids meets all that it asks, by these ids alone.
+    /// Whether these ids alone meet the query.
     #[inline(always)]
     pub fn meets(&self, ids: &[Id]) -> bool
         ensures { result ≡ meets self.now ids.now }
@@ -106,7 +106,7 @@ impl<'q, A: Allocator> AskedQuery<'q, A> {
         self.may_meet() && meets(self.query, ids)
     }
 
-    /// Whether ids may meet it, as far as that is kept.
+    /// Whether some ids may meet the query, as far as is kept.
     #[inline(always)]
     fn may_meet(&self) -> bool
         ensures { result ≡ false → (ids : List id_specs.Id) → meets self.now ids ≡ false }
@@ -118,7 +118,7 @@ impl<'q, A: Allocator> AskedQuery<'q, A> {
     }
 }
 
-/// For whom an id concerns a query that asks this.
+/// For which entities an id concerns a query that asks this.
 #[inline(always)]
 fn of_asked<A: Allocator>(asked: &AskedTerms<A>, id: Id) -> Concern
     ensures { result ≡ joined_concerns (record {

@@ -1,4 +1,4 @@
-//! What a query asks, as patterns of ids with tests of words, by which ids are judged.
+//! What a query asks, kept as patterns of ids with fast tests, so that a changed fact is judged by its id.
 #![tactic(auto)]
 
 mod asked;

@@ -1,4 +1,4 @@
-//! From the entities of which variables a query's terms lead to those of which others.
+//! How the terms of a query lead from the entity of one variable to the entity of another.
 
 ghost use Rattle.std.specs.Prelude.{◌≡◌, ◌++◌, IfOk, OnOk, Some, flat_map};
 ghost use Rattle.component_index.specs.Patterns.{matches};
@@ -12,15 +12,15 @@ use ecs_id::Id;
 use query_model::query::{Ref, Term};
 use std::alloc::{AllocError, Allocator};
 
-/// That a term leads from the entity of a variable to that of one after it, by a pair of which one is the holder and
-/// the other the target.
+/// A term that leads from the entity of a variable to the entity of a later one, by a pair: one of the two is its
+/// holder, the other its target.
 #[derive(Drop)]
 pub struct LinkStep {
     pub(crate) from: usize,
     pub(crate) to: usize,
     /// The pairs that the term may match.
     pub(crate) asked: AskedId,
-    /// Whether the entity of the first variable holds the pair.
+    /// Whether the holder is the entity of the earlier variable.
     pub(crate) outward: bool,
 }
 
@@ -39,7 +39,7 @@ impl LinkStep {
         self.to
     }
 
-    /// Whether the entity of the first variable holds the pair.
+    /// Whether the holder is the entity of the earlier variable.
     #[inline(always)]
     pub fn is_outward(&self) -> bool
         ensures { result ≡ self.now.outward }
@@ -47,7 +47,7 @@ impl LinkStep {
         self.outward
     }
 
-    /// Whether it may lead by an id.
+    /// Whether the step may lead by this id.
     #[inline(always)]
     pub fn matches(&self, id: Id) -> bool
         ensures { result ≡ matches self.now.asked id }
@@ -55,7 +55,7 @@ impl LinkStep {
         self.asked.matches(id)
     }
 
-    /// The pairs with this target by which it may lead.
+    /// The pairs with this target by which the step may lead.
     #[inline(always)]
     pub fn pairs_with(&self, target: u32) -> Pattern
         ensures { result ≡ record { first = (self.now.asked).first; second = Some (Is target) } }
@@ -64,7 +64,7 @@ impl LinkStep {
     }
 }
 
-/// How some terms lead from variable to variable.
+/// The steps of these terms.
 pub(crate) fn link_steps<A: Allocator>(
     alloc: A,
     terms: &[Term],
@@ -78,8 +78,8 @@ pub(crate) fn link_steps<A: Allocator>(
     Ok(steps)
 }
 
-/// Adds how a term leads from one variable to another, if it asks the entity of one itself for a pair with that of the
-/// other.
+/// Adds the step of a term, if it tests the entity of one variable itself for a pair whose target is the entity of
+/// another.
 fn push_step<A: Allocator>(term: &Term, steps: &mut Vec<LinkStep, A>) -> Result<(), AllocError>
     ensures { OnOk result (steps.new.items ≡ steps.old.items ++ steps_of term.now) }
 {
@@ -95,7 +95,8 @@ fn push_step<A: Allocator>(term: &Term, steps: &mut Vec<LinkStep, A>) -> Result<
     push_between(source, target, asked_by(term.component, term.target), steps)
 }
 
-/// Adds that pairs lead between the entities of two variables, the first of which holds them, if these aren't one.
+/// Adds the step between two variables, where the entity of `source` is the holder and that of `target` the target;
+/// none if they are the same variable.
 fn push_between<A: Allocator>(
     source: usize,
     target: usize,
