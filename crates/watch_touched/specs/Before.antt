@@ -1,4 +1,4 @@
--- What queries saw of a world before a command, by the world after it and what has changed.
+-- The view that queries had of the world before a command, from the world after it and the changes.
 use Rattle.std.specs.Prelude.{ℕ, ◌==◌, Bool, false, not, List, [], ◌++◌, map, filter, filter_map, fold, Some, None, if◌then◌else◌}
 use Rattle.std.specs.List.{list_any}
 use Rattle.std.specs.Option.{option_map_or}
@@ -15,24 +15,24 @@ abbrev pub in_order : {K : Type 0} → (K → K → Ordering) → List K → Lis
 in_order R xs = keys (fold (with_member R) [] xs)
 
 module _ (changed : Changed) where
-  -- whether the entity at an index was born
+  -- whether the entity at an index was created
   abbrev pub is_born : ℕ → Bool
   is_born i = option_map_or (λ e. e.index == i) changed.born false
 
-  -- whether a fact has come
+  -- whether a fact was added
   abbrev pub has_come : Key → Bool
   has_come k = list_any (key_eq k) changed.came
 
 module _ (after : WorldState) (changed : Changed) where
-  -- who lived before: those who live now and weren't born, and those who died
+  -- the entities that lived before: those that live now and weren't created, and those that were deleted
   unfoldable pub entities_before : List ℕ
   entities_before = in_order nat_cmp (filter (λ i. not (is_born changed i)) (entities after) ++ map (λ d. (d.0).index) changed.died)
 
-  -- the facts before: those that are there now and haven't come, and those that went
+  -- the facts before: those of now without the added ones, and the removed ones
   unfoldable pub facts_before : List Key
   facts_before = in_order key_cmp (filter (λ k. not (has_come changed k)) (keys after.facts) ++ changed.went)
 
-  -- what queries saw before, but for values, which are those of now
+  -- the view before; values are those of now
   abbrev pub view_before : View
   view_before = record {
     entities = entities_before;

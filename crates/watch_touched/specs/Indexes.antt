@@ -5,7 +5,7 @@ use Rattle.ecs_model.specs.steps.Outcomes.{Changed}
 use Rattle.ecs_model.specs.rows.View.{View}
 use Rattle.query_local.specs.Touched.{Touch, held_in}
 
--- the indexes of who was born, of who died, and of whose facts came and went
+-- the indexes of the created entity, of the deleted entities, and of the entities of added and removed facts
 abbrev pub indexes_of : Changed → List ℕ
 indexes_of c = cons_option (option_map (λ e. e.index) c.born) (map (λ d. (d.0).index) c.died ++ (map (λ k. k.0) c.came ++ map (λ k. k.0) c.went))
 

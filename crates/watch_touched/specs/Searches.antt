@@ -1,4 +1,4 @@
--- What those are found by who may have moved by facts of others, and what is known meanwhile.
+-- What a search for candidates uses, and what is known during it.
 use Rattle.std.specs.Prelude.{◌≡◌, ◌↔◌, ℕ, ◌≤◌, Bool, true, List}
 use Rattle.std.specs.List.{Contains}
 use Rattle.ecs_id.specs.Id.{Id}
@@ -16,25 +16,26 @@ use Rattle.watch_touched.specs.declared.moving.Happened.{Happened}
 use Rattle.watch_touched.specs.declared.moving.Targets.{Targets}
 use Rattle.watch_touched.specs.declared.roles.Walk.{Walk}
 
--- ---- who leans on an entity
+-- ---- the holders of a pair with an entity
 
 module _ {A B : Type 0} (by : Leaners A B) where
-  -- whether whoever holds these ids is looked for, by one of them
+  -- whether a holder of these ids is looked for, by one of them
   abbrev pub is_looked_for : List Id → Id → Bool
   is_looked_for = is_sought by.sought by.query.now
 
-  -- all who are, by a pair with this entity
+  -- all holders that are looked for, by a pair with this entity
   abbrev pub leaners_on : ℕ → List ℕ
   leaners_on = leaning is_looked_for by.world.now.state
 
--- ---- who may have moved by what has happened
+-- ---- the candidates after a command
 
 module _ {A B : Type 0} (happened : Happened A B) where
-  -- among these are all that have moved
+  -- every entity that entered or left the rows is in this list
   abbrev pub AreAllMovedBy : List ℕ → Type 0
   AreAllMovedBy all = AreAllMoved happened.query.now happened.world.now.state happened.changes.now all
 
-  -- all who may have can be found, by those of whom a fact came or went that concerns the query, and by those of whom one did that concerns others, or those below
+  -- the candidates can be found; the lists hold the entities of the changed facts that concern the query, that concern
+  -- it for other entities, and that concern it for entities below
   pub record IsFollowed (moving : List ℕ) (targets : Targets A) : Type 0 where
     pub bonds : happened.bonds ≡ bonds_of happened.query.now
     pub after : IsAfter happened.world.now.state happened.changes.now
@@ -44,17 +45,18 @@ module _ {A B : Type 0} (happened : Happened A B) where
     pub others : targets.others.items ≡ entities_of (concerns_others happened.query.now) happened.changes.now
     pub below : targets.below.items ≡ entities_of (concerns_below happened.query.now) happened.changes.now
 
--- ---- who may be `$this` behind an entity
+-- ---- the entities that may be `$this`, behind an entity
 
 module _ {A B : Type 0} (walk : Walk A B) where
-  -- behind an entity as that of a variable, in at most so many steps
+  -- those behind an entity as the one of a variable, in at most so many steps
   abbrev pub this_behind : ℕ → ℕ → ℕ → List ℕ
   this_behind = found_behind walk.query.now walk.world.now.state walk.changes.now
 
-  -- whether a step may lead from whoever holds these ids, by one of them
+  -- whether a step may lead from a holder of these ids, by one of them
   abbrev pub leads : LinkStep → List Id → Id → Bool
   leads = leads_by walk.query.now (walk.asked.now.others).items walk.changes.now.went
 
--- a list got all who are found back from a variable, in however many steps there are variables before it
+-- a list got all entities that are found behind a variable, however many steps are between (at most one for each
+-- earlier variable)
 abbrev pub AddsBehind : ℕ → (ℕ → List ℕ) → List ℕ → List ℕ → Type 0
 AddsBehind variable found before after = (n : ℕ) → variable ≤ n → Adds (found n) before after

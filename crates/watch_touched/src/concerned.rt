@@ -1,4 +1,4 @@
-//! What concerns a query besides facts.
+//! Changes that may concern a query besides facts.
 
 ghost use Rattle.std.specs.Prelude.{◌≡◌};
 ghost use Rattle.watch_touched.specs.Concerned.{has_births_or_deaths};
@@ -6,7 +6,7 @@ ghost use Rattle.watch_touched.specs.Concerned.{has_births_or_deaths};
 use ecs_world::Changes;
 use std::alloc::Allocator;
 
-/// Whether an entity was born or died.
+/// Whether a command created or deleted an entity.
 pub fn has_births_or_deaths<A: Allocator>(changes: &Changes<A>) -> bool
     ensures { result ≡ has_births_or_deaths changes.now }
 {

@@ -1,4 +1,4 @@
-//! Facts in order: whether one is among them, those of one entity, and their ids.
+//! Sorted facts: whether a fact is among them, the facts of one entity, and their ids.
 
 ghost use Rattle.std.specs.Prelude.{◌≡◌, ◌++◌, ◌==◌, filter, map, not, IfOk, OnOk};
 ghost use Rattle.std.specs.List.{list_any};
@@ -9,7 +9,7 @@ use ecs_id::Id;
 use ecs_model::FactKey;
 use std::alloc::{AllocError, Allocator};
 
-/// Whether facts in order have this one among them.
+/// Whether sorted facts contain this fact.
 fn is_among(facts: &[FactKey], fact: FactKey) -> bool
     requires { IsStrictlySortedBy key_cmp facts.now }
     ensures { result ≡ list_any (key_eq fact) facts.now }
@@ -17,7 +17,7 @@ fn is_among(facts: &[FactKey], fact: FactKey) -> bool
     facts.binary_search(&fact).is_ok()
 }
 
-/// Those of facts in order that are an entity's.
+/// The facts of one entity, out of sorted facts.
 pub(crate) fn facts_of(facts: &[FactKey], entity: u32) -> &[FactKey]
     requires { IsStrictlySortedBy key_cmp facts.now }
     ensures { result.now ≡ filter (λ k. k.0 == entity) facts.now }
@@ -28,7 +28,7 @@ pub(crate) fn facts_of(facts: &[FactKey], entity: u32) -> &[FactKey]
     &rest[..count]
 }
 
-/// Those of an entity's ids whose facts haven't come.
+/// The ids that an entity holds, without the ids of the added facts.
 pub(crate) fn ids_not_come<A: Allocator>(
     alloc: A,
     came: &[FactKey],
@@ -47,7 +47,7 @@ pub(crate) fn ids_not_come<A: Allocator>(
     Ok(old)
 }
 
-/// Adds the ids of facts.
+/// Appends the ids of these facts.
 pub(crate) fn push_ids<A: Allocator>(
     facts: &[FactKey],
     ids: &mut Vec<Id, A>,

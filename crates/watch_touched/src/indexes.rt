@@ -22,7 +22,7 @@ pub(crate) fn touched_indexes<A: Allocator + Copy>(
     Ok(indexes)
 }
 
-/// The indexes of all that has changed.
+/// The indexes of the created entity, of each deleted entity, and of the entity of each added or removed fact.
 fn gathered<A: Allocator + Copy>(alloc: A, changes: &Changes<A>) -> Result<ShortList<A>, AllocError>
     ensures { IfOk result (λ indexes. indexes.items ≡ indexes_of changes.now) }
 {
@@ -38,7 +38,7 @@ fn gathered<A: Allocator + Copy>(alloc: A, changes: &Changes<A>) -> Result<Short
     Ok(indexes)
 }
 
-/// Adds the indexes of facts' entities.
+/// Appends the index of the entity of each fact.
 fn push_entities<A: Allocator + Copy>(
     alloc: A,
     facts: &[FactKey],
@@ -52,8 +52,8 @@ fn push_entities<A: Allocator + Copy>(
     Ok(())
 }
 
-/// Puts indexes in order, each once.
-// (few commands touch more than one)
+/// Sorts indexes and drops duplicates.
+// (few commands touch more than one entity)
 #[inline(always)]
 pub(crate) fn put_in_order<A: Allocator>(indexes: &mut ShortList<A>)
     ensures ascend { IsStrictlyIncreasing indexes.new.items }

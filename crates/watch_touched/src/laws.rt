@@ -3,30 +3,32 @@
 ghost use Rattle.watch_touched.specs.Laws.{OthersThanMovingStay, OthersThanRolesStay, QueriesMatchedBefore};
 ghost use Rattle.watch_touched.specs.Laws.{ShowsWorldBefore, UnconcernedQueriesMatchOn};
 
-/// Law: by the world after a command and what has changed, the same entities lived before, with the same ids, as in the
-/// world before.
+/// Law: the view before a command, computed from the world after it and from its changes, shows the same live entities
+/// with the same ids as the world before.
 pub fn view_before_shows_the_world_before()
     ensures { ShowsWorldBefore }
 {}
 
-/// Law: and a query had rows of the same entities.
+/// Law: in that view a query has rows of the same entities as in the world before.
 pub fn queries_matched_before()
     ensures { QueriesMatchedBefore }
 {}
 
-/// Law: a query that a command doesn't concern has rows of the same entities after it.
+/// Law: a query that a command doesn't concern has rows of the same entities before and after it.
 pub fn unconcerned_queries_match_on()
     ensures { UnconcernedQueriesMatchOn }
 {}
 
-/// Law: where all who may move in or out of a query's rows by a command can be found, all others stay where they are.
+/// Law: for an anchored query, where a changed fact of another entity may move only the holders of a pair with it or
+/// with an entity below it: if a list includes every candidate (`AreMoving`), every other entity is in the rows after
+/// the command exactly if it was before.
 pub fn others_than_moving_stay()
     ensures { OthersThanMovingStay }
 {}
 
-/// Law: where a query is linked, an entity stays where three things hold. Its own facts neither came nor went. No terms
-/// lead from it to an entity of whom a fact came or went that is asked of it as another variable. It is below none
-/// whose facts concern those below.
+/// Law: the same for a linked query. An entity stays in the rows or out of them where three things hold: none of its
+/// own facts was added or removed; the query's terms lead from it to no entity with a changed fact that the query asks
+/// of a variable besides `$this`; and it is below no entity with a changed fact that concerns entities below.
 pub fn others_than_those_who_may_stand_stay()
     ensures { OthersThanRolesStay }
 {}

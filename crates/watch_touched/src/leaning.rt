@@ -1,4 +1,4 @@
-//! Who leans on an entity: who holds a pair with it that concerns a query.
+//! The holders of a pair with an entity as the target, where that pair concerns a query.
 
 ghost use Rattle.std.specs.Prelude.{◌≡◌, ◌==◌, ◌&&◌, ◌∷◌, [], filter, flat_map, map, OnOk};
 ghost use Rattle.std.specs.List.{list_all, list_any};
@@ -18,14 +18,14 @@ use std::alloc::{AllocError, Allocator};
 use table_store::TableStore;
 use watch_asked::AskedQuery;
 
-/// How many entities are found at most, and how many are looked at for one of them: if there are more, all rows are
-/// found in less time.
+/// How many entities a search finds at most, and how many it looks at for one target. Above that, finding all rows
+/// takes less time.
 pub(crate) const MOST: usize = 64;
 
-/// How many tables are gone through for one of them. Most may be empty.
+/// How many tables a search goes through for one target. Most of them may be empty.
 pub(crate) const MOST_TABLES: usize = 256;
 
-/// What those are looked for by who lean on somebody: by a pair for which a query has them sought.
+/// A search for the holders of a pair with a target. `sought` says which pairs and holders count.
 #[derive(Drop)]
 pub(crate) struct Leaners<'a, 'q, A: Allocator, B: Allocator> {
     pub(crate) alloc: A,
@@ -35,7 +35,7 @@ pub(crate) struct Leaners<'a, 'q, A: Allocator, B: Allocator> {
 }
 
 impl<A: Allocator + Copy, B: Allocator> Leaners<'_, '_, A, B> {
-    /// Adds those who lean on one of these entities. False, where these may be too many: then not all are added.
+    /// Adds the holders found for each target. Answers false where they may be too many; then some are missing.
     pub(crate) fn push_leaning_on_all(
         &self,
         targets: &[u32],
@@ -54,8 +54,8 @@ impl<A: Allocator + Copy, B: Allocator> Leaners<'_, '_, A, B> {
         Ok(true)
     }
 
-    /// Adds those who lean on one of these, those who lean on one of those, and so on. False, where these may be too
-    /// many.
+    /// Adds the holders found for each entity in the list, then the holders found for those, and so on. Answers false
+    /// where they may be too many.
     pub(crate) fn push_all_below(&self, found: &mut ShortList<A>) -> Result<bool, AllocError>
         ensures { IfDone result (HasAllBelow (is_looked_for self.now) self.now.world.now.state found.old.items
             found.new.items) }
@@ -72,7 +72,7 @@ impl<A: Allocator + Copy, B: Allocator> Leaners<'_, '_, A, B> {
         Ok(found.len() <= MOST)
     }
 
-    /// Adds those who lean on this entity. False, where these may be too many.
+    /// Adds the holders found for one target. Answers false where they may be too many.
     fn push_leaning(&self, target: u32, found: &mut ShortList<A>) -> Result<bool, AllocError>
         ensures { IfDone result (Adds (leaners_on self.now target) found.old.items found.new.items) }
     {
@@ -92,8 +92,8 @@ impl<A: Allocator + Copy, B: Allocator> Leaners<'_, '_, A, B> {
         Ok(found.len() <= MOST)
     }
 
-    /// Adds those in these tables who lean on an entity. All in a table hold the same ids. False, where more are looked
-    /// at than few, and then not all are added.
+    /// Adds the holders found for a target in these tables. All entities of a table hold the same ids. Answers false
+    /// where more than `MOST` entities would be looked at; then some are missing.
     fn push_from_tables(
         &self,
         store: &TableStore<A>,
@@ -122,7 +122,7 @@ impl<A: Allocator + Copy, B: Allocator> Leaners<'_, '_, A, B> {
         Ok(true)
     }
 
-    /// Adds these entities, of whom each holds these ids, if they lean on another one: all of them do, or nobody does.
+    /// Adds these entities, which all hold the same ids, if those ids make them holders that are sought for the target.
     #[inline(always)]
     fn push_alike(
         &self,
@@ -135,7 +135,7 @@ impl<A: Allocator + Copy, B: Allocator> Leaners<'_, '_, A, B> {
             → Adds (filter (leans (is_looked_for self.now) w target) (map (λ e. e.index) entities.now))
             found.old.items found.new.items) }
     {
-        // who is there already needn't be judged
+        // entities that are in the list already needn't be tested
         if are_among(found.as_slice(), entities) {
             return Ok(());
         }
@@ -146,7 +146,7 @@ impl<A: Allocator + Copy, B: Allocator> Leaners<'_, '_, A, B> {
     }
 }
 
-/// Adds those of these entities that aren't there yet.
+/// Adds each of these entities that isn't in the list yet.
 pub(crate) fn push_each<A: Allocator + Copy>(
     alloc: A,
     entities: &[EntityId],
@@ -160,7 +160,7 @@ pub(crate) fn push_each<A: Allocator + Copy>(
     Ok(())
 }
 
-/// Adds an entity that isn't there yet.
+/// Adds an entity if it isn't in the list yet.
 fn push_new<A: Allocator + Copy>(
     alloc: A,
     entity: u32,
@@ -180,14 +180,14 @@ pub(crate) fn is_among(entities: &[u32], entity: u32) -> bool
     entities.iter().any(|x| *x == entity)
 }
 
-/// Whether all of these are among those that are there.
+/// Whether each of these entities is in the list.
 pub(crate) fn are_among(found: &[u32], entities: &[EntityId]) -> bool
     ensures { result ≡ list_all (λ e. list_any (λ x. x == e.index) found.now) entities.now }
 {
     entities.iter().all(|entity| is_among(found, entity.index))
 }
 
-/// Whether those who hold these ids lean on this target.
+/// Whether an entity with these ids is a holder that is sought for this target.
 fn lean<B: Allocator>(query: &AskedQuery<'_, B>, sought: Sought, target: u32, ids: &[Id]) -> bool
     ensures { result ≡ list_any (λ i. matches (pairs_to target) i && is_sought sought query.now ids.now i) ids.now }
 {

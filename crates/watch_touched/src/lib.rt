@@ -1,4 +1,5 @@
-//! The entities that a command touched, and the queries that it concerns, by what it has changed.
+//! Which entities a command touched, whether its changes concern a query, and which entities may have entered or left
+//! the query's rows.
 #![tactic(auto)]
 
 mod bonds;

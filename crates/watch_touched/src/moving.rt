@@ -1,4 +1,4 @@
-//! Who may have moved in or out of a query's rows, where few may.
+//! The candidates of a query after a command: the entities that may have moved, which is to enter or to leave its rows.
 
 ghost use Rattle.std.specs.Prelude.{◌≡◌, ◌↔◌, ◌++◌, ◌∷◌, ◌==◌, ◌≤◌, ◌&&◌, ◌||◌, [], ℕ, Contains, true};
 ghost use Rattle.std.specs.Prelude.{flat_map, length, not, IfNone, IfOk, IfSome};
@@ -33,18 +33,18 @@ use short_list::ShortList;
 use std::alloc::{AllocError, Allocator};
 use watch_asked::{AskedQuery, AskedTerms};
 
-/// What is told of who may have moved in or out of a query's rows by a command.
+/// What is known about the candidates of a query after a command.
 #[derive(Clone, Copy)]
 pub enum Moved {
-    /// The command doesn't concern the query, so nobody has.
+    /// The command doesn't concern the query: no entity entered or left the rows.
     Nobody,
-    /// Those in a list, and nobody else.
+    /// Every candidate is in the list.
     Few,
-    /// Anybody may have.
+    /// Any entity may have entered or left the rows.
     Unknown,
 }
 
-/// What has happened in a world by a command, and the query that is asked who may have moved by it.
+/// A command's changes, the world after it, and the query whose candidates are searched for.
 #[derive(Drop)]
 pub(crate) struct Happened<'a, 'q, A: Allocator, B: Allocator> {
     alloc: A,
@@ -54,21 +54,23 @@ pub(crate) struct Happened<'a, 'q, A: Allocator, B: Allocator> {
     changes: &'a Changes<A>,
 }
 
-/// Those with whom one holds a pair who may have moved by a fact of another.
+/// The entities whose changed facts may have moved the holders of a pair with them.
 #[derive(Drop)]
 pub(crate) struct Targets<A: Allocator> {
-    /// Of whom a fact came or went that concerns the query for others.
+    /// The entity of each changed fact that concerns the query for entities besides the holder and those below it.
     others: ShortList<A>,
-    /// Of whom one did that concerns it for those below, and then all below these.
+    /// The entity of each changed fact that concerns the query for the entities below the holder; later also every
+    /// entity below one of these.
     below: ShortList<A>,
 }
 
-/// Who may have moved in or out of a query's rows by a command, if it concerns the query. These are put into a list, in
-/// which nobody is yet. All others are in the rows or out of them as before.
+/// Finds the candidates of a query after a command, and puts them into `moving`, which is empty before. Every entity
+/// that isn't a candidate is in the rows exactly if it was before.
 ///
-/// Unknown, where that can't be told: of a query that isn't anchored; where a fact concerns others than its entity and
-/// the query is neither tied nor linked, or is linked alone and what it asks isn't kept; or where more than 64 may have
-/// moved. Takes time in what has changed, and for each that may have moved. Fails where memory is refused.
+/// Answers `Unknown` where the candidates can't be found: the query isn't anchored; or a changed fact concerns entities
+/// besides its holder and those below it, and the query is neither tied nor linked, or is only linked and what it asks
+/// isn't kept; or there may be more than 64 candidates. Takes time in the number of changed facts, and for each
+/// candidate. Fails where memory is refused.
 pub fn who_may_have_moved<A: Allocator + Copy, B: Allocator>(
     alloc: A,
     world: &World<A>,
@@ -117,7 +119,7 @@ pub fn who_may_have_moved<A: Allocator + Copy, B: Allocator>(
     Ok(Moved::Few)
 }
 
-/// Whether nobody may have moved, where of so many a fact that concerns the query came or went.
+/// Whether the command doesn't concern the query. `own` counts the changed facts that concern it.
 #[inline(always)]
 fn is_nobody<A: Allocator>(bonds: Bonds, changes: &Changes<A>, own: usize) -> bool
     ensures { result ≡ ((own == 0) && (bonds.anchored || not (has_births_or_deaths changes.now))) }
@@ -125,9 +127,8 @@ fn is_nobody<A: Allocator>(bonds: Bonds, changes: &Changes<A>, own: usize) -> bo
     own == 0 && (bonds.anchored || !has_births_or_deaths(changes))
 }
 
-/// Whether all who may have moved can be found: births and deaths don't matter, and what came and went concerns a query
-/// for no others than the entities whose facts these are and those below, or for those alone who hold a pair with one
-/// of these, or from whom terms lead to one. Of so many a fact came or went that concerns others.
+/// Whether the candidates can be found: the query is anchored, and it is tied or linked, or no changed fact concerns
+/// entities besides its holder and those below it. `others` counts the changed facts that do.
 #[inline(always)]
 fn finds_moving(bonds: Bonds, others: usize) -> bool
     ensures { result ≡ (bonds.anchored && (bonds.tied || bonds.linked || (others == 0))) }
@@ -135,7 +136,8 @@ fn finds_moving(bonds: Bonds, others: usize) -> bool
     bonds.anchored && (bonds.tied || bonds.linked || others == 0)
 }
 
-/// Whether an entity is `$this` of a row of a query, as its ids tell. None, where they don't: then it lives.
+/// Whether an entity is `$this` of a row, as far as its own ids decide it. None where they don't; then the entity is
+/// alive.
 pub fn told_by_ids<A: Allocator, B: Allocator>(
     query: &AskedQuery<'_, B>,
     world: &World<A>,
@@ -159,7 +161,7 @@ pub fn told_by_ids<A: Allocator, B: Allocator>(
     None
 }
 
-/// Adds the entities of all facts that came and went, as `push_concerned` does.
+/// Does what `push_concerned` does, for all added and all removed facts.
 fn push_all_concerned<A: Allocator + Copy, B: Allocator>(
     alloc: A,
     query: &AskedQuery<'_, B>,
@@ -177,8 +179,8 @@ fn push_all_concerned<A: Allocator + Copy, B: Allocator>(
     push_concerned(alloc, query, changes.went(), own, targets)
 }
 
-/// Adds the entities of those facts that concern a query to the list, and of those that concern it for others, or for
-/// those below, to the targets. The id of each fact is judged once.
+/// Adds the entity of each fact that concerns the query to `own`. Adds it to the targets too where the fact concerns
+/// other entities, or entities below. The id of each fact is judged once.
 #[inline(always)]
 fn push_concerned<A: Allocator + Copy, B: Allocator>(
     alloc: A,
@@ -199,8 +201,8 @@ fn push_concerned<A: Allocator + Copy, B: Allocator>(
     Ok(())
 }
 
-/// Adds the entity of a fact to each of these lists for which that concerns a query.
-// (out of line, so that where no fact came or went nothing is paid for it)
+/// Adds the entity of a fact to each of these lists, if the fact concerns the query in that way.
+// (out of line, so that a command without added or removed facts pays nothing for it)
 #[inline(never)]
 fn push_if_concerned<A: Allocator + Copy, B: Allocator>(
     alloc: A,
@@ -224,7 +226,7 @@ fn push_if_concerned<A: Allocator + Copy, B: Allocator>(
     Ok(())
 }
 
-/// Adds an entity, if it is wanted.
+/// Adds an entity if it is wanted.
 #[inline(always)]
 fn push_if<A: Allocator>(
     alloc: A,
@@ -240,8 +242,8 @@ fn push_if<A: Allocator>(
     Ok(())
 }
 
-/// Whether those who may have moved by facts of others hold a pair with one of these, or with one below these: so it is
-/// of a tied query, and where no fact concerns others. Of so many one does.
+/// Whether a changed fact of another entity may move only the holders of a pair with it, or with an entity below it:
+/// the query is tied, or no changed fact concerns other entities. `others` counts the changed facts that do.
 #[inline(always)]
 fn are_holders(bonds: Bonds, others: usize) -> bool
     ensures { result ≡ (bonds.tied || (others == 0)) }
@@ -250,9 +252,9 @@ fn are_holders(bonds: Bonds, others: usize) -> bool
 }
 
 impl<'a, 'q, A: Allocator + Copy, B: Allocator> Happened<'a, 'q, A, B> {
-    /// Adds all who may have moved by another one's fact to those of whom one that concerns the query came or went, and
-    /// puts all in order. False, where they may be too many.
-    // (by value, so that nothing is put down for it where no fact concerns others)
+    /// Completes the list of candidates and sorts it. It begins with the entities whose own changed facts concern the
+    /// query. Answers false where there may be too many.
+    // (by value, so that nothing is stored for it where no fact concerns other entities)
     #[inline(always)]
     fn push_all_moving(
         self,
@@ -270,10 +272,9 @@ impl<'a, 'q, A: Allocator + Copy, B: Allocator> Happened<'a, 'q, A, B> {
         self.push_moved_by_others(targets, moving)
     }
 
-    /// Adds all who may have moved by another one's fact to those of whom one that concerns the query came or went, and
-    /// puts all in order. Begins with those of whom one did that concerns others, and that concerns those below. False,
-    /// where they may be too many, or what the query asks isn't kept.
-    // (the facts of most commands concern their own entities alone)
+    /// The same where a changed fact concerns other entities or entities below. Answers false where there may be too
+    /// many candidates, or where what the query asks isn't kept.
+    // (most facts concern their own entity alone)
     #[inline(never)]
     fn push_moved_by_others(
         self,
@@ -292,8 +293,9 @@ impl<'a, 'q, A: Allocator + Copy, B: Allocator> Happened<'a, 'q, A, B> {
         self.push_moved_by_roles(asked, targets, moving)
     }
 
-    /// Adds all who hold a pair with one of whom a fact came or went that concerns others, or that concerns those below,
-    /// or with one below such. Puts all in order. False, where they may be too many.
+    /// Adds each entity that holds a pair whose target is in `others`, the entities with a changed fact that concerns
+    /// other entities; or in `below`, the entities with a changed fact that concerns entities below, and all entities
+    /// below them. Then sorts the list. Answers false where there may be too many.
     fn push_moved_by_pairs(
         &self,
         targets: &mut Targets<A>,
@@ -314,9 +316,9 @@ impl<'a, 'q, A: Allocator + Copy, B: Allocator> Happened<'a, 'q, A, B> {
         Ok(true)
     }
 
-    /// Adds all from whom the terms of a linked query lead to one of whom a fact came or went that is asked of another
-    /// variable than `$this`, and all who hold a pair with one of whom a fact did that concerns those below, or with one
-    /// below such. Puts all in order. False, where they may be too many.
+    /// For a linked query. Adds each entity from which the query's terms lead to the holder of a changed fact that the
+    /// query asks of a variable besides `$this`. Adds each entity that holds a pair whose target is in `below`, or is
+    /// below one of these. Then sorts the list. Answers false where there may be too many.
     fn push_moved_by_roles(
         &self,
         asked: &AskedTerms<B>,
@@ -346,8 +348,8 @@ impl<'a, 'q, A: Allocator + Copy, B: Allocator> Happened<'a, 'q, A, B> {
         Ok(true)
     }
 
-    /// Adds to the second list those who may have moved by a fact of one in the first, which is put in order. False,
-    /// where they may be too many.
+    /// Sorts the targets, and adds each candidate that holds a pair with one of them to `moving`. Answers false where
+    /// there may be too many.
     fn push_holders(
         &self,
         others: &mut ShortList<A>,
@@ -363,8 +365,8 @@ impl<'a, 'q, A: Allocator + Copy, B: Allocator> Happened<'a, 'q, A, B> {
         leaners.push_leaning_on_all(others.as_slice(), moving)
     }
 
-    /// Adds to these entities, of whom a fact came or went that concerns those below, all below them; and to the second
-    /// list those who may have moved by a fact of one of these. False, where they may be too many.
+    /// Adds to `below` all entities below those in it. Adds to `moving` each candidate that holds a pair with an entity
+    /// in `below`. Answers false where there may be too many.
     #[inline(always)]
     fn push_below(
         &self,
@@ -383,7 +385,7 @@ impl<'a, 'q, A: Allocator + Copy, B: Allocator> Happened<'a, 'q, A, B> {
         self.push_all_leaning(below, moving)
     }
 
-    /// The same, where there are some of these entities.
+    /// The same, where `below` isn't empty.
     #[inline(never)]
     fn push_all_leaning(
         &self,
@@ -405,7 +407,7 @@ impl<'a, 'q, A: Allocator + Copy, B: Allocator> Happened<'a, 'q, A, B> {
         leaners.push_leaning_on_all(below.as_slice(), moving)
     }
 
-    /// What those are looked for by who lean on somebody so.
+    /// A search for holders, of which `sought` says which ones count.
     #[inline(always)]
     fn seeking(&self, sought: Sought) -> Leaners<'a, 'q, A, B>
         ensures { result ≡ record {

@@ -1,5 +1,5 @@
-//! Who may have moved in or out of a linked query's rows by facts of others than `$this`: back from those of whom a
-//! fact came or went, along the terms that link its variables, to those who may be `$this`.
+//! The candidates of a linked query by changed facts of other entities. The search walks back from the holder of each
+//! changed fact, along the terms that link the query's variables, to the entities that may be `$this`.
 
 ghost use Rattle.std.specs.Prelude.{◌≡◌, ◌+◌, ◌==◌, ◌&&◌, ◌++◌, ◌∷◌, [], false, true, filter, flat_map, map, OnOk};
 ghost use Rattle.std.specs.List.{list_any};
@@ -25,18 +25,18 @@ use std::alloc::{AllocError, Allocator};
 use table_store::TableStore;
 use watch_asked::{AskedOf, AskedQuery, AskedTerms, LinkStep};
 
-/// What a walk back goes by.
+/// What a walk back uses.
 #[derive(Drop)]
 pub(crate) struct Walk<'a, 'q, A: Allocator, B: Allocator> {
     pub(crate) alloc: A,
     pub(crate) query: &'a AskedQuery<'q, B>,
-    /// What is kept of the query.
+    /// What the query asks, as it is kept.
     pub(crate) asked: &'a AskedTerms<B>,
     pub(crate) world: &'a World<A>,
     pub(crate) changes: &'a Changes<A>,
 }
 
-/// A step that is gone back along from an entity, to which it leads.
+/// One step of a walk back: a term that links two variables, and the entity that it leads to.
 #[derive(Clone, Copy)]
 struct StepBack<'a> {
     step: &'a LinkStep,
@@ -44,11 +44,11 @@ struct StepBack<'a> {
 }
 
 impl<A: Allocator + Copy, B: Allocator> Walk<'_, '_, A, B> {
-    /// Adds all that may have moved by a fact of an entity that may stand for another variable than `$this`. False,
-    /// where more are looked at than few.
+    /// Adds each candidate that a changed fact of another entity may have moved, where that entity may stand for a
+    /// variable besides `$this`. Answers false where more than `MOST` entities would be looked at.
     ///
-    /// A fact is begun with as each variable that is asked for it and whose needs its holder has, or had. From there it
-    /// goes back alone, to variables before, so each walk ends.
+    /// A walk begins at the holder of each changed fact, once for each variable that is asked for this fact and whose
+    /// required ids the holder has or had. Each step goes to an earlier variable, so every walk ends.
     pub(crate) fn push_by_roles(&self, moving: &mut ShortList<A>) -> Result<bool, AllocError>
         requires asked { IsAskedBy self.now.query.now self.now.asked.now }
         ensures { IfDone result (Adds (this_among self.now.query.now self.now.world.now.state (λ v t. true)
@@ -66,8 +66,8 @@ impl<A: Allocator + Copy, B: Allocator> Walk<'_, '_, A, B> {
         self.push_from_facts(went, &mut free, moving)
     }
 
-    /// Adds those that may be `$this` and lead to the entities of these facts. False, where more are looked at than so
-    /// many.
+    /// Adds the entities that may be `$this` and lead to the holder of one of these facts. Answers false where the
+    /// budget `free` is used up.
     #[inline(always)]
     fn push_from_facts(
         &self,
@@ -87,9 +87,9 @@ impl<A: Allocator + Copy, B: Allocator> Walk<'_, '_, A, B> {
         Ok(true)
     }
 
-    /// Adds those that may be `$this` and lead to the entity of a fact, as each variable for which it counts. False,
-    /// where more are looked at than so many.
-    // (out of line, so that where no fact came or went nothing is paid for it)
+    /// Adds the entities that may be `$this` and lead to the holder of a fact, for each variable for which the fact
+    /// counts. Answers false where the budget `free` is used up.
+    // (out of line, so that a command without added or removed facts pays nothing for it)
     #[inline(never)]
     fn push_from_fact(
         &self,
@@ -119,8 +119,8 @@ impl<A: Allocator + Copy, B: Allocator> Walk<'_, '_, A, B> {
         Ok(true)
     }
 
-    /// Adds those that may be `$this` and lead to an entity as that of a variable. False, where more are looked at than
-    /// so many.
+    /// Adds the entities that may be `$this` and lead to this entity as the one that the variable stands for. Answers
+    /// false where the budget `free` is used up.
     #[cycle(behind)]
     fn push_behind(
         &self,
@@ -148,7 +148,7 @@ impl<A: Allocator + Copy, B: Allocator> Walk<'_, '_, A, B> {
         Ok(true)
     }
 
-    /// Adds an entity that isn't there yet, if it doesn't lack what the query asks of `$this` itself.
+    /// Adds an entity that isn't in the list yet, if it has every id that the query requires on `$this` itself.
     fn push_if_matching(&self, entity: u32, found: &mut ShortList<A>) -> Result<(), AllocError>
         ensures { OnOk result (Adds (filter (may_be_this self.now.query.now self.now.world.now.state) (entity ∷ []))
             found.old.items found.new.items) }
@@ -162,9 +162,9 @@ impl<A: Allocator + Copy, B: Allocator> Walk<'_, '_, A, B> {
         found.push(self.alloc, entity)
     }
 
-    /// Adds those that may be `$this` and lead to those from which a step may lead to an entity: holders of a pair with
-    /// it, or the targets of such pairs that it holds, or that went from it. False, where more are looked at than so
-    /// many.
+    /// Walks one step back from an entity, to the holders of a pair with it, or to the targets of pairs that it holds
+    /// or lost, and adds the entities that may be `$this` and lead to one of these. Answers false where the budget
+    /// `free` is used up.
     #[cycle(behind)]
     fn push_by_step(
         &self,
@@ -189,8 +189,8 @@ impl<A: Allocator + Copy, B: Allocator> Walk<'_, '_, A, B> {
         self.push_behind_gone(back, free, moving)
     }
 
-    /// Adds those that may be `$this` and lead to a holder of a pair with an entity by which a step may lead from them
-    /// to it. False, where more are looked at than so many.
+    /// Adds the entities that may be `$this` and lead to a holder of a pair with this entity, where the step's term may
+    /// match that pair. Answers false where the budget `free` is used up.
     #[cycle(behind)]
     fn push_behind_holders(
         &self,
@@ -216,8 +216,8 @@ impl<A: Allocator + Copy, B: Allocator> Walk<'_, '_, A, B> {
         self.push_behind_all(variable, entities, free, moving)
     }
 
-    /// Adds those that may be `$this` and lead to the targets of those of an entity's ids that are pairs by which a
-    /// step may lead from their target to it. False, where more are looked at than so many.
+    /// Adds the entities that may be `$this` and lead to the target of a pair among these ids, where the step's term
+    /// may match that pair. Answers false where the budget `free` is used up.
     #[cycle(behind)]
     fn push_behind_targets(
         &self,
@@ -239,8 +239,7 @@ impl<A: Allocator + Copy, B: Allocator> Walk<'_, '_, A, B> {
         Ok(true)
     }
 
-    /// Adds those that may be `$this` and lead to the targets of those pairs that went from an entity. False, where
-    /// more are looked at than so many.
+    /// The same for the removed pairs of an entity. Answers false where the budget `free` is used up.
     #[cycle(behind)]
     fn push_behind_gone(
         &self,
@@ -267,8 +266,8 @@ impl<A: Allocator + Copy, B: Allocator> Walk<'_, '_, A, B> {
         Ok(true)
     }
 
-    /// Adds those that may be `$this` and lead to the target of a pair, if a step may lead from that to the pair's
-    /// holder. False, where more are looked at than so many.
+    /// Adds the entities that may be `$this` and lead to the target of this id, if it is a pair that the step's term
+    /// may match. Answers false where the budget `free` is used up.
     #[cycle(behind)]
     fn push_behind_target(
         &self,
@@ -294,8 +293,8 @@ impl<A: Allocator + Copy, B: Allocator> Walk<'_, '_, A, B> {
         self.push_behind(step.from(), target, free, moving)
     }
 
-    /// Adds those that may be `$this` and lead to each of these entities, as those of a variable. False, where more are
-    /// looked at than so many.
+    /// Adds the entities that may be `$this` and lead to one of these entities as the one that the variable stands for.
+    /// Answers false where the budget `free` is used up.
     #[cycle(behind)]
     fn push_behind_all(
         &self,
@@ -316,8 +315,8 @@ impl<A: Allocator + Copy, B: Allocator> Walk<'_, '_, A, B> {
         Ok(true)
     }
 
-    /// Adds those who hold a pair with an entity by which a step may lead from them to it. False, where more are looked
-    /// at than so many.
+    /// Adds the holders of a pair with an entity, where the step's term may match that pair. Answers false where the
+    /// budget `free` is used up.
     fn push_holders(
         &self,
         back: StepBack<'_>,
@@ -337,8 +336,8 @@ impl<A: Allocator + Copy, B: Allocator> Walk<'_, '_, A, B> {
         self.push_holders_in(back, store, tables, free, found)
     }
 
-    /// Adds those in these tables from whom a step may lead to an entity. False, where more are looked at than so many,
-    /// and then not all are added.
+    /// The same for the holders in these tables. Answers false where the budget `free` is used up; then some are
+    /// missing.
     fn push_holders_in(
         &self,
         back: StepBack<'_>,
@@ -365,9 +364,9 @@ impl<A: Allocator + Copy, B: Allocator> Walk<'_, '_, A, B> {
         Ok(true)
     }
 
-    /// Adds these entities, of whom each holds these ids, if a step may lead from them to another one: it may from all
-    /// of them, or from nobody. False, where more are looked at than so many: they count for one where it leads from
-    /// nobody, however many they are.
+    /// Adds these entities, which all hold the same ids, if the step may lead from a holder of those ids to its entity.
+    /// Answers false where the budget `free` is used up: a table takes 1 of it, and the number of its entities if they
+    /// are added.
     #[inline(always)]
     fn push_rows(
         &self,
@@ -382,7 +381,7 @@ impl<A: Allocator + Copy, B: Allocator> Walk<'_, '_, A, B> {
             (map (λ e. e.index) entities.now))
             found.old.items found.new.items) }
     {
-        // who is there already needn't be judged
+        // entities that are in the list already needn't be tested
         if are_among(found.as_slice(), entities) {
             return Ok(true);
         }
@@ -401,8 +400,8 @@ impl<A: Allocator + Copy, B: Allocator> Walk<'_, '_, A, B> {
 }
 
 impl<A: Allocator, B: Allocator> Walk<'_, '_, A, B> {
-    /// Whether a step may lead to its entity from those who hold these ids. One is a pair with it by which the step
-    /// leads, so of `$this` only the others are looked at.
+    /// Whether the step may lead to its entity from a holder of these ids. The caller knows that one of the ids is a
+    /// matching pair, so for `$this` only the required ids are tested.
     fn may_lead(&self, back: StepBack<'_>, ids: &[Id]) -> bool
         ensures { result ≡ false → list_any (λ i. matches (pairs_to back.entry.entity) i
             && leads self.now (back.entry.step).now ids.now i) ids.now ≡ false }
@@ -414,8 +413,7 @@ impl<A: Allocator, B: Allocator> Walk<'_, '_, A, B> {
         self.leads_from_other(back, ids)
     }
 
-    /// Whether a step may lead to its entity from those who hold these ids, as the entities of another variable than
-    /// `$this`.
+    /// The same for a variable besides `$this`, from whose entity the step leads.
     fn leads_from_other(&self, back: StepBack<'_>, ids: &[Id]) -> bool
         ensures { result ≡ list_any (λ i. matches (pairs_to back.entry.entity) i
             && (matches (back.entry.step).now.asked i
@@ -430,7 +428,7 @@ impl<A: Allocator, B: Allocator> Walk<'_, '_, A, B> {
         false
     }
 
-    /// Whether it may so by this one of the ids.
+    /// Whether the step may lead so by this one of the ids.
     #[inline(always)]
     fn leads_by_pair(&self, back: StepBack<'_>, ids: &[Id], id: Id) -> bool
         ensures { result ≡ (matches (pairs_to back.entry.entity) id && (matches (back.entry.step).now.asked id
@@ -440,7 +438,7 @@ impl<A: Allocator, B: Allocator> Walk<'_, '_, A, B> {
         is_pair_to(id, back.entity) && back.step.matches(id) && self.counts_from(back.step, ids, id)
     }
 
-    /// Whether somebody who holds these ids is asked for one of them as the entity from which a step leads.
+    /// Whether a holder of these ids is asked for this id as the entity that the step leads from.
     fn counts_from(&self, step: &LinkStep, ids: &[Id], id: Id) -> bool
         ensures { result ≡ any_counts_as (λ v. v == step.now.from) self.now.asked.now.others.items
             (ids.now ++ map (λ k. k.1) self.now.changes.now.went) id }
@@ -452,7 +450,7 @@ impl<A: Allocator, B: Allocator> Walk<'_, '_, A, B> {
     }
 }
 
-/// Takes some of those that may still be looked at. False, where so many are no more.
+/// Takes `count` out of the budget. Answers false where so much isn't left.
 #[inline(always)]
 fn take(free: &mut usize, count: usize) -> bool
     ensures { result ≡ true → free.new + count ≡ free.old }
@@ -464,7 +462,7 @@ fn take(free: &mut usize, count: usize) -> bool
     true
 }
 
-/// Whether a step leads to the entity of this variable.
+/// Whether the step leads to the entity of this variable.
 #[inline(always)]
 fn leads_to(step: &LinkStep, variable: usize) -> bool
     ensures { result ≡ (step.now.to == variable) }
@@ -472,8 +470,8 @@ fn leads_to(step: &LinkStep, variable: usize) -> bool
     step.to() == variable
 }
 
-/// Whether somebody who has held no other ids than these, and those of these facts, is asked for an id as the entity of
-/// a variable.
+/// Whether an entity that has held only these ids, and the ids of these facts, is asked for an id as the entity of a
+/// variable.
 fn any_counts_as<B: Allocator>(
     others: &[AskedOf<B>],
     variable: usize,

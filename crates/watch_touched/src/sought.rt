@@ -1,4 +1,4 @@
-//! Who is looked for among those that hold a pair with an entity.
+//! Which holders of a pair with an entity a search looks for.
 
 ghost use Rattle.std.specs.Prelude.{◌≡◌};
 ghost use Rattle.watch_touched.specs.Leaning.{is_sought};
@@ -7,17 +7,16 @@ use ecs_id::Id;
 use std::alloc::Allocator;
 use watch_asked::AskedQuery;
 
-/// Who is looked for among those that hold a pair with an entity.
+/// Which holders of a pair with an entity a search looks for.
 #[derive(Clone, Copy, Drop)]
 pub(crate) enum Sought {
-    /// Who may move by a fact of that: whose pair concerns the query, and who doesn't lack what it asks of `$this`
-    /// itself.
+    /// Candidates: the pair concerns the query, and the holder has every id that the query requires on `$this` itself.
     Moving,
-    /// Who is below it: whose pair concerns the query for others, or for those below.
+    /// Entities below: the pair concerns the query for other entities, or for entities below.
     Below,
 }
 
-/// Whether one who holds these ids is looked for, by a pair among them.
+/// Whether a holder of these ids is looked for, by this pair among them.
 #[inline(always)]
 pub(crate) fn is_sought<B: Allocator>(
     query: &AskedQuery<'_, B>,

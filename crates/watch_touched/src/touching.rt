@@ -17,9 +17,11 @@ use ecs_world::{Changes, World};
 use query_local::Touched;
 use std::alloc::{AllocError, Allocator};
 
-/// The entities that a command touched, by ascending index: who was born or died, and who gained or lost an id.
+/// The entities that a command touched, by ascending index: created, deleted, or with an added or removed fact. Each
+/// comes with its ids before and after.
 ///
-/// It takes time in what has changed and in the ids of these entities, besides the time to sort and search.
+/// Takes time in the number of changes and of the ids of these entities, besides sorting and searching. Fails where
+/// memory is refused.
 pub fn touched<'w, A: Allocator + Copy>(
     alloc: A,
     world: &'w World<A>,
@@ -67,7 +69,7 @@ fn touch<'w, A: Allocator + Copy>(
     })
 }
 
-/// Whether the entity at an index was born.
+/// Whether the entity at an index was created by the command.
 fn was_born<A: Allocator>(changes: &Changes<A>, index: u32) -> bool
     ensures { result ≡ is_born changes.now index }
 {
@@ -77,7 +79,7 @@ fn was_born<A: Allocator>(changes: &Changes<A>, index: u32) -> bool
     }
 }
 
-/// The ids of the entity at an index, in order, if one lives there.
+/// The sorted ids of the entity at an index, if one lives there.
 pub(crate) fn ids_now<A: Allocator>(world: &World<A>, index: u32) -> Option<&[Id]>
     ensures { option_copied result ≡ held_in (view_of world.now.state) index }
 {
@@ -85,7 +87,7 @@ pub(crate) fn ids_now<A: Allocator>(world: &World<A>, index: u32) -> Option<&[Id
     world.ids_of(entity)
 }
 
-/// The ids of the entity at an index, in order: none where none lives.
+/// The sorted ids of the entity at an index; empty where no entity lives there.
 pub(crate) fn ids_at<A: Allocator>(world: &World<A>, index: u32) -> &[Id]
     ensures { result.now ≡ ids_of world.now.state index }
 {
@@ -93,7 +95,7 @@ pub(crate) fn ids_at<A: Allocator>(world: &World<A>, index: u32) -> &[Id]
     ids_now(world, index).unwrap_or(&[])
 }
 
-/// The ids that an entity held, in order: those that it holds now and that haven't come, and those that went.
+/// The sorted ids that an entity held before: those that it holds now without the added ones, and the removed ones.
 fn ids_before<A: Allocator>(
     alloc: A,
     world: &World<A>,
