@@ -8,12 +8,12 @@ use Rattle.query_model.specs.Query.{Query}
 use Rattle.table_store.specs.Store.{Store}
 use Rattle.watch_stored.specs.declared.stored.StoredQuery.{StoredQuery}
 
--- a list of tables is that of a query, and fits a store
+-- a list of tables belongs to a query, and fits a store
 pub record IsListOf (q : Query) (s : Store) (list : Kept) : Type 0 where
   pub patterns : list.patterns ≡ patterns_of q
   pub fits : Fits list s
 
--- a kept query, and no other, has a list: its own, which fits a store
+-- a kept query has a list, which belongs to it and fits a store; other kinds have none
 pub record ListsTables (s : Store) (kind : StoredKind) (q : Query) (held : Option Kept) : Type 0 where
   pub kept : is_some held ≡ not (is_told kind)
   pub list : IfSome held (IsListOf q s)
@@ -21,14 +21,14 @@ pub record ListsTables (s : Store) (kind : StoredKind) (q : Query) (held : Optio
 abbrev pub HasList : {A : Type 0} → Store → StoredQuery A → Type 0
 HasList s q = ListsTables s q.kind (q.plan).query q.list
 
--- it fits every store, as a new one does
+-- the same for every store, as for a new list
 abbrev pub HasNewList : {A : Type 0} → StoredQuery A → Type 0
 HasNewList q = (s : Store) → HasList s q
 
 abbrev pub IsNewList : Query → Option Kept → Type 0
 IsNewList q list = (s : Store) → IfSome list (IsListOf q s)
 
--- a list of no table yet, which never judged any
+-- a list of no table yet, for which no table was judged
 pub record IsBlank (list : Kept) : Type 0 where
   pub keys : list.keys ≡ []
   pub last : list.last ≡ 0

@@ -25,18 +25,18 @@ pub record AreTouchedBy {A : Type 0} (w : WorldState) (changed : Changed) (touch
 abbrev pub held_by : {A : Type 0} → Listener A → Held
 held_by l = held_as (string_bytes l.name.now) l.query.now
 
--- a command left this world, and the listener is current and held the rows of before the command
+-- a command led to this world, and the listener is current and held the rows of before the command
 pub record IsListening {A : Type 0} (e : Effect A) (l : Listener A) : Type 0 where
   pub after : IsAfter e.world.now.state e.changes.now
   pub held : IsHeld e.world.now.state (held_by l)
   pub was : WasNow e.world.now.state e.changes.now (held_by l)
 
--- what a stored query reports stands after other events; where memory is refused, a prefix of it
+-- the events of a stored query are appended; where memory is refused, a prefix of them
 pub record TellsListener {A T E : Type 0} (e : Effect A) (l : Listener A) (r : Result T E) (before after : List Event) : Type 0 where
   pub told : OnOk r (after ≡ before ++ told_to e.world.now.state e.changes.now (held_by l))
   pub front : OnErr r (StopsWithin before after (told_to e.world.now.state e.changes.now (held_by l)))
 
--- its whole rows are counted where they are taken: once at most, and not where it isn't searched
+-- finding all rows is counted: at most once, and not where the command doesn't concern the query
 pub record CountsWholeRows {A : Type 0} (e : Effect A) (l : Listener A) (before after : ℕ) : Type 0 where
   pub spared : is_searched e.changes.now (held_by l) ≡ false → after ≡ before
   pub grows : before ≤ after

@@ -1,10 +1,10 @@
-//! A stored query: what a session holds of it, and what it is notified of after a command.
+//! One stored query: what a session holds of it, and the events that it is notified of after a command.
 //!
 //! ```text
-//! // what is held of a query that was read, as one of a kind
+//! // what a session holds of a query that was read
 //! let mut stored = stored_query(alloc, &world, kind, query, &mut compared)?;
 //!
-//! // after a command: its events, and the moves of its rows after those of others, if they don't stay
+//! // after a command: its events, and its changed rows unless they stay
 //! let effect = Effect { world: &world, changes: &changes };
 //! let listener = Listener { place, name: &name, query: &stored };
 //! tell_one(&effect, &touched, &listener, &mut report)?;

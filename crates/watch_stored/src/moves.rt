@@ -1,4 +1,4 @@
-//! Who leaves and who enters the rows of a monitor whose query isn't local.
+//! The entities that leave and enter the rows of a monitor whose query isn't local.
 
 ghost use Rattle.std.specs.Prelude.{◌≡◌, ℕ, ◌+◌, ◌≤◌, ◌&&◌, ◌||◌, ◌++◌, ◌∷◌, [], None, IfOk, OnOk, false, filter, min};
 ghost use Rattle.std.specs.Prelude.{not, true, if◌then◌else◌};
@@ -27,21 +27,21 @@ use std::alloc::{AllocError, Allocator};
 use watch_asked::AskedQuery;
 use watch_touched::{Moved, told_by_ids, who_may_have_moved};
 
-/// So many are asked one by one. For more of them the search remembers what it has found.
+/// Up to so many entities are searched one by one. For more, one search remembers what it has found.
 const FEW: usize = 4;
 
-/// The entities of a monitor's rows after a command, by those who left the rows by it and those who entered them. Both
-/// ascend.
+/// The entities of a monitor's rows after a command: those that left and those that entered, each in ascending order.
 #[derive(Drop)]
 pub struct RowsAfter<A: Allocator> {
     pub(crate) left: ShortList<A>,
     pub(crate) entered: ShortList<A>,
-    /// All of them, unless the moves can be made in the set of those before the command.
+    /// All entities of the rows. None where the set from before the command has room for the changes; then they are
+    /// made in that set.
     pub(crate) these: Option<EntitySet<A>>,
 }
 
 impl<A: Allocator> RowsAfter<A> {
-    /// Where nobody has left or entered.
+    /// No entity has left or entered.
     #[inline(always)]
     pub fn new() -> Self
         ensures { AreNoMoves result }
@@ -54,7 +54,7 @@ impl<A: Allocator> RowsAfter<A> {
     }
 }
 
-/// A monitor's query, asked who is in its rows in a world.
+/// The query of a monitor, and a world in which its rows are searched.
 #[derive(Drop)]
 struct Question<'q, A: Allocator> {
     alloc: A,
@@ -62,9 +62,9 @@ struct Question<'q, A: Allocator> {
     query: &'q StoredQuery<A>,
 }
 
-/// Whether a command concerns the query of a monitor that isn't local; and if so, its moves are put in the place of
-/// none. Where all who may have moved are found, their ids or a search tell who of them is in the rows; else all rows
-/// are taken, counted, and compared. The room for searches is for any queries, one after another.
+/// For a monitor whose query isn't local. Answers whether the command concerns the query; if so, `rows` gets the
+/// entities that left and entered. Where every candidate is known, its ids or a search for it alone decide; else all
+/// rows are found, compared with those before, and counted. One room serves the searches of any number of queries.
 ///
 /// Fails where memory is refused.
 pub(crate) fn rows_after<A: Allocator + Copy>(
@@ -114,7 +114,7 @@ pub(crate) fn rows_after<A: Allocator + Copy>(
     }
 }
 
-/// The rows where those who may have moved are told.
+/// The rows, where every candidate is known.
 fn rows_by_asking<A: Allocator + Copy>(
     question: &Question<'_, A>,
     room: &mut AskingRoom<A>,
@@ -134,7 +134,7 @@ fn rows_by_asking<A: Allocator + Copy>(
     Ok(())
 }
 
-/// Adds, of ascending entities, those who are in the rows no more, and those who are in them now.
+/// Of ascending candidates, adds those that have left the rows, and those that have entered them.
 fn push_moves<A: Allocator + Copy>(
     question: &Question<'_, A>,
     room: &mut AskingRoom<A>,
@@ -151,7 +151,7 @@ fn push_moves<A: Allocator + Copy>(
     push_searched(question, room, moving, rows)
 }
 
-/// The same, where each is asked by itself.
+/// The same, with one search for each candidate.
 fn push_each<A: Allocator + Copy>(
     question: &Question<'_, A>,
     room: &mut AskingRoom<A>,
@@ -168,7 +168,7 @@ fn push_each<A: Allocator + Copy>(
     Ok(())
 }
 
-/// Whether an entity is in the rows of a query: its ids tell it, or else it is asked.
+/// Whether an entity is in the rows of a query: its ids decide it, else a search.
 fn is_in_rows<A: Allocator + Copy>(
     question: &Question<'_, A>,
     room: &mut AskingRoom<A>,
@@ -185,7 +185,7 @@ fn is_in_rows<A: Allocator + Copy>(
     }
 }
 
-/// The same, where those whose ids don't tell are asked together.
+/// The same, with one search for all candidates whose ids don't decide.
 #[inline(never)]
 fn push_searched<A: Allocator + Copy>(
     question: &Question<'_, A>,
@@ -212,7 +212,7 @@ fn push_searched<A: Allocator + Copy>(
     Ok(())
 }
 
-/// Adds those of some entities whose ids don't tell whether they are in the rows of a query.
+/// Adds each of these entities whose ids don't decide whether it is in the rows of a query.
 fn push_untold<A: Allocator + Copy>(
     alloc: A,
     world: &World<A>,
@@ -232,7 +232,7 @@ fn push_untold<A: Allocator + Copy>(
     Ok(())
 }
 
-/// Whether an entity is in the rows of a query: its ids tell it, or else it is among those who were found.
+/// Whether an entity is in the rows of a query: its ids decide it, else whether it is among those that were found.
 fn is_told_or_found<A: Allocator>(
     world: &World<A>,
     asked: &AskedQuery<'_, A>,
@@ -251,8 +251,8 @@ fn is_told_or_found<A: Allocator>(
     }
 }
 
-/// Adds an entity to those who left, if it was in the rows and isn't any more; and to those who entered, if it wasn't,
-/// and is.
+/// Adds an entity to those that left, if it was in the rows and isn't now; or to those that entered, if it is and
+/// wasn't.
 #[inline(always)]
 fn push_move<A: Allocator + Copy>(
     question: &Question<'_, A>,
@@ -286,7 +286,7 @@ fn push_if<A: Allocator>(
     Ok(())
 }
 
-/// Whether ascending indexes have this one among them.
+/// Whether an index is among ascending indexes.
 fn is_among(entities: &[u32], entity: u32) -> bool
     requires { IsStrictlyIncreasing entities.now }
     ensures { result ≡ is_among entities.now entity }
@@ -294,8 +294,7 @@ fn is_among(entities: &[u32], entity: u32) -> bool
     entities.binary_search(&entity).is_ok()
 }
 
-/// Makes the set after some have left it and some have entered it, if it has no room for all of these: else they can be
-/// exchanged in it.
+/// Makes a new set of the rows, if the old one has no room for the changes. Else they are made in the old one later.
 ///
 /// Fails where memory is refused.
 fn fill_set<A: Allocator + Copy>(
@@ -318,7 +317,7 @@ fn fill_set<A: Allocator + Copy>(
     Ok(())
 }
 
-/// The rows where all are taken.
+/// The rows, found as a whole.
 #[inline(never)]
 fn rows_by_all<A: Allocator + Copy>(
     question: &Question<'_, A>,

@@ -1,4 +1,4 @@
-//! What a command did, the stored query that is notified of it, and where its report goes.
+//! The changes of a command, the stored query that is notified, and the report that its events go to.
 
 ghost use Rattle.std.specs.Prelude.{◌≡◌, []};
 
@@ -10,14 +10,14 @@ use std::alloc::Allocator;
 use std::mem;
 use watch_events::Event;
 
-/// What an accepted command did: the world that it left, and what it changed in it.
+/// An accepted command: the world after it, and its changes.
 #[derive(Clone, Copy)]
 pub struct Effect<'c, A: Allocator> {
     pub world: &'c World<A>,
     pub changes: &'c Changes<A>,
 }
 
-/// A stored query that is notified of a command, with its name, and its place among the others.
+/// A stored query that is notified of a command, with its name, and its place among the stored queries.
 #[derive(Clone, Copy)]
 pub struct Listener<'q, A: Allocator> {
     pub place: usize,
@@ -25,29 +25,29 @@ pub struct Listener<'q, A: Allocator> {
     pub query: &'q StoredQuery<A>,
 }
 
-/// What the searches for the rows of monitors need, of one after another.
+/// What searches for the rows of monitors use, one monitor after another.
 #[derive(Drop)]
 pub struct Searches<A: Allocator> {
     pub(crate) alloc: A,
-    /// Room for them.
+    /// Room for the searches.
     pub(crate) room: AskingRoom<A>,
-    /// How often whole rows were taken.
+    /// How often all rows of a monitor were found.
     pub compared: u64,
 }
 
-/// What stored queries report of a command, one after another. Its room is used again for the next command.
+/// The report of the stored queries on one command. Its room is used again for the next command.
 #[derive(Drop)]
 pub struct Report<A: Allocator> {
-    /// The events, in their order.
+    /// The events, in order.
     pub events: Vec<Event<A>, A>,
-    /// The moves of rows that don't stay, each with the place of its query.
+    /// The changed rows of monitors, each with the place of its stored query.
     pub rows: Vec<(usize, RowsAfter<A>), A>,
-    /// By which these moves are found.
+    /// The searches by which these rows are found.
     pub searches: Searches<A>,
 }
 
 impl<A: Allocator + Copy> Report<A> {
-    /// A report of nothing. It takes no memory.
+    /// An empty report. It takes no memory.
     pub fn new(alloc: A) -> Self {
         let searches = Searches {
             alloc,
@@ -61,7 +61,7 @@ impl<A: Allocator + Copy> Report<A> {
         }
     }
 
-    /// Empties the report for another command, before which whole rows were taken so often.
+    /// Empties the report for another command; `compared` is how often all rows of a monitor were found so far.
     #[inline(always)]
     pub fn begin(&mut self, compared: u64)
         ensures events { (self.new).events.items ≡ [] }
@@ -73,7 +73,7 @@ impl<A: Allocator + Copy> Report<A> {
         self.searches.compared = compared;
     }
 
-    /// The events, which are taken out with the room in which they stand.
+    /// Takes the events out, with the room that they are in.
     #[inline(always)]
     pub fn take_events(&mut self) -> Vec<Event<A>, A>
         ensures { result ≡ (self.old).events }

@@ -12,10 +12,10 @@ use query_local::{Touched, local_told};
 use std::alloc::{AllocError, Allocator};
 use watch_events::{Audience, Event, Moves, may_tell, tell, tell_moves};
 
-/// Puts what a stored query reports after other events, and after those of others the moves of its rows, unless they
-/// stay. Counts the whole rows taken.
+/// Appends the events of a stored query to the report, and its changed rows unless they stay. Counts where all rows are
+/// found.
 ///
-/// Fails where memory is refused, and then the first of these events may stand after the others.
+/// Fails where memory is refused; then some of these events, the first ones, may be appended.
 pub fn tell_one<A: Allocator + Copy>(
     effect: &Effect<'_, A>,
     touched: &[Touched<'_, A>],
@@ -38,7 +38,7 @@ pub fn tell_one<A: Allocator + Copy>(
     if !listener.query.is_compared() {
         return tell_uncompared(effect, touched, listener, &mut report.events);
     }
-    // the moves are made where they are kept
+    // the changes are made in the place where they are kept
     report.rows.push((listener.place, RowsAfter::new()))?;
     let last = report.rows.len() - 1;
     let put = tell_compared(
@@ -55,10 +55,10 @@ pub fn tell_one<A: Allocator + Copy>(
     Ok(())
 }
 
-/// Puts what a stored query reports after other events, if it isn't a monitor whose query isn't local. Most observers
-/// are told nothing, which is asked first.
+/// Appends the events of a stored query that isn't a monitor of a query that isn't local. Whether there may be any is
+/// tested first, since most observers get none.
 ///
-/// Fails where memory is refused, and then the first of these events may stand after the others.
+/// Fails where memory is refused; then some of these events, the first ones, may be appended.
 fn tell_uncompared<A: Allocator + Copy>(
     effect: &Effect<'_, A>,
     touched: &[Touched<'_, A>],
@@ -81,10 +81,10 @@ fn tell_uncompared<A: Allocator + Copy>(
     tell_observer(effect, listener, events)
 }
 
-/// Puts what a monitor whose query isn't local reports after other events, and answers whether the moves of its rows
-/// are put in the place of none: the command concerns its query. Counts the whole rows taken.
+/// Appends the events of a monitor whose query isn't local. Answers whether the command concerns the query; then `rows`
+/// gets its changed rows. Counts where all rows are found.
 ///
-/// Fails where memory is refused, and then the first of these events may stand after the others.
+/// Fails where memory is refused; then some of these events, the first ones, may be appended.
 fn tell_compared<A: Allocator + Copy>(
     effect: &Effect<'_, A>,
     listener: &Listener<'_, A>,
@@ -122,7 +122,7 @@ fn tell_compared<A: Allocator + Copy>(
     Ok(true)
 }
 
-/// Puts what an event observer reports after other events.
+/// Appends the events of an observer.
 fn tell_observer<A: Allocator + Copy>(
     effect: &Effect<'_, A>,
     listener: &Listener<'_, A>,
@@ -141,7 +141,7 @@ fn tell_observer<A: Allocator + Copy>(
     tell(alloc, effect.world, effect.changes, audience, events)
 }
 
-/// Puts what a monitor of a local query reports after other events, by the entities that the command touched.
+/// Appends the events of a monitor of a local query, from the entities that the command touched.
 fn tell_locally<A: Allocator + Copy>(
     effect: &Effect<'_, A>,
     touched: &[Touched<'_, A>],
