@@ -1,4 +1,4 @@
--- What an observer with one term is notified of, by that term alone.
+-- The events of an observer, decided by its one term.
 use Rattle.std.specs.Prelude.{ℕ, Bool, not, ◌&&◌, ◌||◌, List, [], ℤ, Option, None}
 use Rattle.ecs_id.specs.Id.{Id, plain}
 use Rattle.query_model.specs.declared.query.Term.{Term}
@@ -9,22 +9,22 @@ use Rattle.ecs_model.specs.World.{WorldState, Key, value_of}
 use Rattle.ecs_model.specs.rows.Rows.{asks_tag_of_this, matches}
 use Rattle.ecs_model.specs.steps.Rules.{prefab, disabled}
 
--- by which ids an entity holds
+-- `held` says which ids an entity holds
 module _ (held : ℕ → Id → Bool) where
   -- whether an entity has the tag, and the term doesn't ask for it
   abbrev pub has_unasked : Term → ℕ → ℕ → Bool
   has_unasked t tag e = held e (plain tag) && not (asks_tag_of_this tag t)
 
-  -- whether an observer with the term is notified of a fact
+  -- whether an observer with this term is notified of a fact
   abbrev pub tells : Term → Key → Bool
   tells t k = matches [] t.component t.target k.1 && not (has_unasked t prefab k.0 || has_unasked t disabled k.0)
 
--- the facts of events of addition, or of setting
+-- the facts of an event: added, or with a value that was set
 abbrev pub told_facts : Changed → EventKind → List Key
 told_facts c Written = c.written
 told_facts c kind = c.came
 
--- the value in the event of one
+-- the value in the event of a fact
 abbrev pub told_value : WorldState → EventKind → Key → Option (List ℤ)
 told_value w Written k = value_of w k.0 k.1
 told_value w kind k = None

@@ -1,4 +1,4 @@
-//! What events need of the world before a command, by the world after it and what has changed.
+//! What events say of the world before a command, found from the world after it and the changes.
 
 ghost use Rattle.std.specs.Prelude.{◌≡◌, ◌++◌, ◌==◌, IfOk, OnOk, map};
 ghost use Rattle.std.specs.List.{find, list_any};
@@ -17,7 +17,8 @@ use ecs_print::{write_handle, write_index};
 use ecs_world::{Changes, Death, World};
 use std::alloc::{AllocError, Allocator};
 
-/// Whether an entity, by its index, held an id: the fact has gone, or it is held and has not come.
+/// Whether the entity at an index held an id before the command: the fact was removed, or it is held now and wasn't
+/// added.
 pub(crate) fn held_before<A: Allocator>(
     world: &World<A>,
     changes: &Changes<A>,
@@ -32,7 +33,7 @@ pub(crate) fn held_before<A: Allocator>(
     is_among(changes.went(), fact) || world.has(entity, id) && !is_among(changes.came(), fact)
 }
 
-/// Whether facts in order have this one among them.
+/// Whether sorted facts contain this fact.
 fn is_among(facts: &[FactKey], fact: FactKey) -> bool
     requires { IsStrictlySortedBy key_cmp facts.now }
     ensures { result ≡ list_any (key_eq fact) facts.now }
@@ -40,7 +41,7 @@ fn is_among(facts: &[FactKey], fact: FactKey) -> bool
     facts.binary_search(&fact).is_ok()
 }
 
-/// The entity at an index that died.
+/// The deleted entity at an index.
 fn death_at<A: Allocator>(changes: &Changes<A>, index: u32) -> Option<&Death<A>>
     requires { IsStrictlySortedBy nat_cmp (map (λ d. (d.0).index) changes.now.died) }
     ensures { option_copied result ≡ find (λ d. (d.0).index == index) changes.now.died }
@@ -52,7 +53,7 @@ fn death_at<A: Allocator>(changes: &Changes<A>, index: u32) -> Option<&Death<A>>
     }
 }
 
-/// The entity at an index before the command, and what `entity_now` says where none lived there.
+/// The entity at an index before the command; where none lived there, what `entity_now` answers.
 pub(crate) fn entity_before<A: Allocator>(
     world: &World<A>,
     changes: &Changes<A>,
@@ -67,7 +68,7 @@ pub(crate) fn entity_before<A: Allocator>(
     }
 }
 
-/// The text by which the entity at an index printed.
+/// The text by which the entity at an index was printed before the command.
 pub(crate) fn entity_text_before<A: Allocator + Copy>(
     alloc: A,
     world: &World<A>,
@@ -83,7 +84,7 @@ pub(crate) fn entity_text_before<A: Allocator + Copy>(
     }
 }
 
-/// The text of an entity that died: the name that it had, or its handle where it had none.
+/// The text of a deleted entity: the name that it had, or its handle where it had none.
 fn dead_text<A: Allocator + Copy>(alloc: A, death: &Death<A>) -> Result<Text<A>, AllocError>
     ensures { IfOk result (λ text. text ≡ dead_text death.now) }
 {
@@ -93,7 +94,7 @@ fn dead_text<A: Allocator + Copy>(alloc: A, death: &Death<A>) -> Result<Text<A>,
     }
 }
 
-/// The text by which an id printed.
+/// The text by which an id was printed before the command.
 pub(crate) fn id_text_before<A: Allocator + Copy>(
     alloc: A,
     world: &World<A>,
@@ -145,7 +146,7 @@ fn write_index_before<A: Allocator>(
     }
 }
 
-/// Writes an entity that died: the name that it had, or its handle where it had none.
+/// Writes the text of a deleted entity: the name that it had, or its handle where it had none.
 fn write_dead<A: Allocator>(death: &Death<A>, out: &mut Vec<u8, A>) -> Result<(), AllocError>
     ensures { OnOk result (out.new.items ≡ out.old.items ++ dead_text death.now) }
 {

@@ -50,28 +50,28 @@ impl<A: Allocator> Event<A> {
         self.watch.as_slice()
     }
 
-    /// What has happened.
+    /// What happened.
     pub fn kind(&self) -> EventKind
         ensures { result ≡ (self.now).kind }
     {
         self.kind
     }
 
-    /// The entity that it happened to.
+    /// The entity to which it happened.
     pub fn entity(&self) -> EntityId
         ensures { result ≡ (self.now).entity }
     {
         self.entity
     }
 
-    /// The id of the fact, if it is about one.
+    /// The id of the fact that was added, removed or set; none where an entity left or entered.
     pub fn id(&self) -> Option<Id>
         ensures { result ≡ (self.now).id }
     {
         self.id
     }
 
-    /// The value that was set, if one was: empty where the id has no fields.
+    /// The value that was set, if one was; it is empty where the id has no fields.
     pub fn value(&self) -> Option<Value>
         ensures { result ≡ (self.now).value }
     {
@@ -79,7 +79,7 @@ impl<A: Allocator> Event<A> {
     }
 }
 
-/// Appends an event. Most commands have one alone, for which no more room is made.
+/// Appends an event. Most commands have just one, so only room for one is made.
 #[inline(always)]
 pub(crate) fn push_event<A: Allocator>(
     event: Event<A>,
@@ -95,10 +95,10 @@ pub(crate) fn push_event<A: Allocator>(
     Ok(())
 }
 
-/// Writes the line of an event: its word, the name of the stored query, the entity, and the fact with the value that
-/// was set.
+/// Writes the line of an event: its word, the name of the stored query, the entity, and for a fact its id and the value
+/// that was set.
 ///
-/// Fails where memory is refused, and then a prefix of the line may be written.
+/// Fails where memory is refused; then a prefix of the line may be written.
 pub fn write_event<A: Allocator>(event: &Event<A>, out: &mut Vec<u8, A>) -> Result<(), AllocError>
     ensures { OnOk result (out.new.items ≡ out.old.items ++ event_text event.now) }
 {
@@ -111,7 +111,7 @@ pub fn write_event<A: Allocator>(event: &Event<A>, out: &mut Vec<u8, A>) -> Resu
     Ok(())
 }
 
-/// The word of a kind, with the space after it.
+/// The word for a kind of event, with the space after it.
 fn word(kind: EventKind) -> &'static [u8]
     ensures { result.now ≡ event_word kind }
 {
@@ -124,7 +124,7 @@ fn word(kind: EventKind) -> &'static [u8]
     }
 }
 
-/// Writes the fact of an event with the value that was set, and nothing where it is about none.
+/// Writes the id of an event's fact and the value that was set; nothing for an event without a fact.
 fn write_event_id<A: Allocator>(event: &Event<A>, out: &mut Vec<u8, A>) -> Result<(), AllocError>
     ensures { OnOk result (out.new.items ≡ out.old.items ++ event_id_text event.now) }
 {
@@ -139,7 +139,7 @@ fn write_event_id<A: Allocator>(event: &Event<A>, out: &mut Vec<u8, A>) -> Resul
     }
 }
 
-/// Writes the numbers of a value: `=` and the numbers with commas between, or nothing where there are none.
+/// Writes the numbers of a value: `=`, then the numbers with commas between; nothing where there are none.
 fn write_numbers<A: Allocator>(numbers: &[i128], out: &mut Vec<u8, A>) -> Result<(), AllocError>
     ensures { OnOk result (out.new.items ≡ out.old.items ++ value_text (Some numbers.now)) }
 {

@@ -1,4 +1,4 @@
-//! What observers are notified of facts that came or were set.
+//! The events of observers for added facts, and for facts whose values were set.
 
 ghost use Rattle.std.specs.Prelude.{◌≡◌, ◌++◌, IfOk, OnErr, OnOk, filter, map};
 ghost use Rattle.ecs_id.specs.Id.{IsIndex};
@@ -21,8 +21,8 @@ use ecs_world::{Changes, World};
 use query_model::query::Term;
 use std::alloc::{AllocError, Allocator};
 
-/// Notifies an observer of the facts that came, or of those that were set, by the world after the command: each that
-/// its term matches, and whose entity it doesn't pass over.
+/// Appends the events of an observer for added facts, or for facts whose values were set: each fact that its term
+/// matches and whose entity isn't hidden from the query, as the world is after the command.
 pub(crate) fn tell_facts<A: Allocator + Copy>(
     alloc: A,
     world: &World<A>,
@@ -53,7 +53,7 @@ pub(crate) fn tell_facts<A: Allocator + Copy>(
     Ok(())
 }
 
-/// The facts whose values were set, or else those that came.
+/// The facts whose values were set, or else the added facts.
 fn told_facts<A: Allocator>(changes: &Changes<A>, kind: EventKind) -> &[FactKey]
     ensures { result.now ≡ told_facts changes.now kind }
 {
@@ -63,7 +63,7 @@ fn told_facts<A: Allocator>(changes: &Changes<A>, kind: EventKind) -> &[FactKey]
     }
 }
 
-/// Whether an observer with this term is notified of a fact. Few facts match, so the id is looked at first.
+/// Whether an observer with this term is notified of a fact. Few facts match, so the id is tested first.
 fn tells<A: Allocator>(world: &World<A>, term: &Term, fact: FactKey) -> bool
     ensures { result ≡ tells (holds world.now.state) term.now fact }
 {
@@ -72,7 +72,7 @@ fn tells<A: Allocator>(world: &World<A>, term: &Term, fact: FactKey) -> bool
             || has_unasked(world, term, DISABLED, fact.entity()))
 }
 
-/// Whether an entity has a tag for which the term doesn't ask.
+/// Whether an entity has a tag that the term doesn't ask for.
 fn has_unasked<A: Allocator>(world: &World<A>, term: &Term, tag: u32, entity: u32) -> bool
     requires { IsIndex tag }
     ensures { result ≡ has_unasked (holds world.now.state) term.now tag entity }
@@ -80,7 +80,7 @@ fn has_unasked<A: Allocator>(world: &World<A>, term: &Term, tag: u32, entity: u3
     world.has(entity, Id::plain(tag)) && !asks_tag_of_this(term, tag)
 }
 
-/// The event of a fact, by the world after the command.
+/// The event of a fact, from the world after the command.
 fn fact_event<A: Allocator + Copy>(
     alloc: A,
     world: &World<A>,
@@ -103,7 +103,7 @@ fn fact_event<A: Allocator + Copy>(
     })
 }
 
-/// The value of a fact where it was set, and None where the fact came.
+/// The value of a fact that was set; none where the fact was added.
 fn told_value<A: Allocator>(world: &World<A>, kind: EventKind, fact: FactKey) -> Option<Value>
     ensures { result ≡ told_value world.now.state kind fact }
 {

@@ -1,4 +1,4 @@
-//! Whether stored queries may be notified of a command, by the ids of what has changed.
+//! Whether a stored query may be notified of a command, by the ids of the changed facts.
 
 ghost use Rattle.std.specs.Prelude.{◌≡◌, List, [], ℕ, false};
 ghost use Rattle.std.specs.List.{list_any};
@@ -15,10 +15,10 @@ use query_check::Query;
 use query_model::query::Term;
 use std::alloc::Allocator;
 
-/// Whether a stored query may be notified of a command. An event observer may if its term matches the id of a fact that
-/// it would be notified of, a monitor always, and a kept query never.
+/// Whether a stored query may be notified of a command: an observer where its term matches the id of a fact of its kind
+/// of change, a monitor always, a kept query never.
 ///
-/// Takes no memory, and a few steps for each fact that has changed.
+/// It takes no memory, and a few steps for each changed fact.
 pub fn may_tell<A: Allocator>(kind: StoredKind, query: &Query<A>, changes: &Changes<A>) -> bool
     ensures may { result ≡ may_tell changes.now kind query.now }
     ensures nothing { result ≡ false

@@ -1,4 +1,4 @@
-//! What stored queries are notified of after a command: events, each with the texts by which it prints.
+//! The events that a stored query is notified of after a command, each with the texts by which it prints.
 #![tactic(auto)]
 
 mod before;

@@ -1,4 +1,4 @@
-//! What observers are notified of facts that went.
+//! The events of observers for removed facts.
 
 ghost use Rattle.std.specs.Prelude.{◌≡◌, ◌++◌, IfOk, OnErr, OnOk, filter, map};
 ghost use Rattle.ecs_id.specs.Id.{IsIndex};
@@ -19,8 +19,8 @@ use ecs_world::{Changes, World};
 use query_model::query::Term;
 use std::alloc::{AllocError, Allocator};
 
-/// Notifies an observer of the facts that went: each that its term matches, and whose entity it didn't pass over before
-/// the command.
+/// Appends the events of an observer for removed facts: each fact that its term matches and whose entity wasn't hidden
+/// from the query before the command.
 pub(crate) fn tell_removals<A: Allocator + Copy>(
     alloc: A,
     world: &World<A>,
@@ -51,7 +51,7 @@ pub(crate) fn tell_removals<A: Allocator + Copy>(
     Ok(())
 }
 
-/// Whether an observer with this term is notified that a fact went. Few facts match, so the id is looked at first.
+/// Whether an observer with this term is notified of a removed fact. Few facts match, so the id is tested first.
 fn tells_before<A: Allocator>(
     world: &World<A>,
     changes: &Changes<A>,
@@ -66,7 +66,7 @@ fn tells_before<A: Allocator>(
             || had_unasked(world, changes, term, DISABLED, fact.entity()))
 }
 
-/// Whether an entity had a tag for which the term doesn't ask.
+/// Whether an entity had a tag before that the term doesn't ask for.
 fn had_unasked<A: Allocator>(
     world: &World<A>,
     changes: &Changes<A>,
@@ -81,7 +81,7 @@ fn had_unasked<A: Allocator>(
     held_before(world, changes, entity, Id::plain(tag)) && !asks_tag_of_this(term, tag)
 }
 
-/// The event of a fact that went, by the names before the command.
+/// The event of a removed fact, with the names before the command.
 fn removed_event<A: Allocator + Copy>(
     alloc: A,
     world: &World<A>,

@@ -1,4 +1,4 @@
-//! What monitors are notified of: the entities that have left their rows, and those that have entered them.
+//! The events of monitors: an entity has left the rows, or has entered them.
 
 ghost use Rattle.std.specs.Prelude.{◌≡◌, ◌++◌, ◌∷◌, [], OnErr, OnOk, map};
 ghost use Rattle.ecs_model.specs.declared.watches.EventKind.TheVariants.{Entered};
@@ -15,17 +15,17 @@ use ecs_model::watches::EventKind;
 use ecs_world::{Changes, World};
 use std::alloc::{AllocError, Allocator};
 
-/// Who has left the rows of a monitor and who has entered them, each by ascending index.
+/// The entities that have left the rows of a monitor, and those that have entered them, each by ascending index.
 #[derive(Clone, Copy)]
 pub struct Moves<'m> {
     pub left: &'m [u32],
     pub entered: &'m [u32],
 }
 
-/// Appends the events of a monitor, where it is known who has left its rows and who has entered them. Those who left
-/// come first.
+/// Appends the events of a monitor, from the entities that have left its rows and those that have entered them. Those
+/// that left come first.
 ///
-/// Fails where memory is refused, and then the first of these may stand after the others.
+/// Fails where memory is refused; then some of these events, the first ones, may be appended.
 pub fn tell_moves<A: Allocator + Copy>(
     alloc: A,
     world: &World<A>,
@@ -44,7 +44,7 @@ pub fn tell_moves<A: Allocator + Copy>(
     tell_each_entered(alloc, world, name, moves.entered, events)
 }
 
-/// Notifies a monitor of each that has left.
+/// Appends an event for each entity that has left.
 fn tell_each_left<A: Allocator + Copy>(
     alloc: A,
     world: &World<A>,
@@ -65,7 +65,7 @@ fn tell_each_left<A: Allocator + Copy>(
     Ok(())
 }
 
-/// Notifies a monitor of each that has entered.
+/// Appends an event for each entity that has entered.
 fn tell_each_entered<A: Allocator + Copy>(
     alloc: A,
     world: &World<A>,
@@ -84,8 +84,8 @@ fn tell_each_entered<A: Allocator + Copy>(
     Ok(())
 }
 
-/// Notifies a monitor of one that has left, by the names before the command.
-// (the event is made where it stands, as a move of it takes more than all else)
+/// Appends the event of an entity that has left, with the names before the command.
+// (the event is made in its place, since to move it would take longer than the rest)
 #[inline(always)]
 fn push_left<A: Allocator + Copy>(
     alloc: A,
@@ -116,7 +116,7 @@ fn push_left<A: Allocator + Copy>(
     )
 }
 
-/// Notifies a monitor of one that has entered.
+/// Appends the event of an entity that has entered.
 #[inline(always)]
 fn push_entered<A: Allocator + Copy>(
     alloc: A,

@@ -1,4 +1,4 @@
-//! What observers are notified of after a command.
+//! The events of observers after a command.
 
 ghost use Rattle.std.specs.Prelude.{◌≡◌, ◌≢◌, ◌++◌, [], OnErr, OnOk};
 ghost use Rattle.ecs_model.specs.declared.watches.StoredKind.TheVariants.{Monitor};
@@ -13,7 +13,7 @@ use ecs_world::{Changes, World};
 use query_check::Query;
 use std::alloc::{AllocError, Allocator};
 
-/// A stored query that is notified of a command.
+/// An observer that is notified of a command.
 #[derive(Clone, Copy)]
 pub struct Audience<'q, A: Allocator> {
     pub name: &'q [u8],
@@ -21,11 +21,10 @@ pub struct Audience<'q, A: Allocator> {
     pub query: &'q Query<A>,
 }
 
-/// Appends the events of an observer for a command, by the world after it. It isn't for monitors, which `tell_moves`
-/// notifies.
+/// Appends the events of an observer for a command, from the world after it. For a monitor use `tell_moves`.
 ///
-/// An observer is judged by its one term before the world is read. Fails where memory is refused, and then the first of
-/// these may stand after the others.
+/// Facts are tested against the observer's one term before the world is read. Fails where memory is refused; then some
+/// of these events, the first ones, may be appended.
 pub fn tell<A: Allocator + Copy>(
     alloc: A,
     world: &World<A>,

@@ -1,4 +1,4 @@
-//! The one term of an observer's query, and what it matches.
+//! The one term of an observer's query, and the ids that it matches.
 
 ghost use Rattle.std.specs.Prelude.{◌≡◌, []};
 ghost use Rattle.std.specs.Option.{option_copied};
@@ -10,7 +10,7 @@ use query_check::{Item, Piece, Query};
 use query_model::query::{Ref, Term};
 use std::alloc::Allocator;
 
-/// The one term of a query that must match, and None of a query of another form.
+/// The one term of a query that consists of one required term; none for any other query.
 pub(crate) fn only_term<A: Allocator>(query: &Query<A>) -> Option<&Term>
     ensures { option_copied result ≡ only_term (query.now).pieces }
 {
@@ -20,7 +20,7 @@ pub(crate) fn only_term<A: Allocator>(query: &Query<A>) -> Option<&Term>
     }
 }
 
-/// Whether a term matches an id. A variable stands for nothing here.
+/// Whether a term matches an id. A variable matches nothing here.
 pub(crate) fn matches(term: &Term, id: Id) -> bool
     ensures { result ≡ matches [] term.now.component term.now.target id }
 {
@@ -41,7 +41,7 @@ fn fits(reference: Ref, entity: u32) -> bool
     }
 }
 
-/// Whether a term asks `$this` for a tag.
+/// Whether the term asks `$this` for this tag.
 pub(crate) fn asks_tag_of_this(term: &Term, tag: u32) -> bool
     ensures { result ≡ asks_tag_of_this tag term.now }
 {

@@ -1,11 +1,11 @@
-//! The text of a name or of a handle, of which a short one stands in the value.
+//! The text of a name or a handle; a short one is kept inside the value.
 ghost use Rattle.std.specs.Prelude.{◌≡◌, IfOk};
 
 use arrayvec::ArrayVec;
 use std::alloc::{AllocError, Allocator};
 use std::marker::Model;
 
-// So many bytes take no block of their own.
+// A text of up to so many bytes takes no block of its own.
 const FEW: usize = 24;
 
 #[derive(Drop)]
@@ -14,7 +14,7 @@ pub(crate) enum Kept<A: Allocator> {
     Many(Vec<u8, A>),
 }
 
-/// A text that stays as it is. A short one takes no memory beside the value.
+/// A text that never changes. A short one takes no memory besides the value.
 #[derive(Drop)]
 pub(crate) struct Text<A: Allocator> {
     pub(crate) kept: Kept<A>,
@@ -30,7 +30,7 @@ impl<A: Allocator> Model for Text<A> {
 }
 
 impl<A: Allocator> Text<A> {
-    /// A text of these bytes. Memory can be refused only where they are more than a few.
+    /// A text of these bytes. Takes memory, and can fail, only where it is longer than a short one.
     pub(crate) fn from_slice(alloc: A, bytes: &[u8]) -> Result<Text<A>, AllocError>
         ensures { IfOk result (λ text. text ≡ bytes.now) }
     {
@@ -45,7 +45,7 @@ impl<A: Allocator> Text<A> {
         Text::of_many(alloc, bytes)
     }
 
-    /// The same in a block of its own.
+    /// The same, in a block of its own.
     #[inline(never)]
     fn of_many(alloc: A, bytes: &[u8]) -> Result<Text<A>, AllocError>
         ensures { IfOk result (λ text. text ≡ bytes.now) }
@@ -55,7 +55,7 @@ impl<A: Allocator> Text<A> {
         })
     }
 
-    /// A text that was written.
+    /// A text from bytes that were written.
     pub(crate) fn from_vec(bytes: Vec<u8, A>) -> Text<A>
         ensures { result ≡ bytes.items }
     {

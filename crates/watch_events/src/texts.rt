@@ -1,4 +1,4 @@
-//! The texts by which entities and ids print after a command.
+//! The texts by which entities and ids are printed after a command.
 
 ghost use Rattle.std.specs.Prelude.{◌≡◌, IfOk};
 ghost use Rattle.ecs_model.specs.Map.{count_at};
@@ -10,7 +10,7 @@ use ecs_print::{write_handle, write_id};
 use ecs_world::World;
 use std::alloc::{AllocError, Allocator};
 
-/// The live entity at an index, and that of generation 0 where none lives.
+/// The live entity at an index; where none lives there, the index with generation 0.
 pub(crate) fn entity_now<A: Allocator>(world: &World<A>, index: u32) -> EntityId
     ensures { result ≡ record { index = index; generation = count_at world.now.state.live index } }
 {
