@@ -1,4 +1,4 @@
--- How commands of a session answer.
+-- The answers to the commands of a session.
 use Rattle.std.specs.Prelude.{◌≡◌, ◌≢◌, ⊤, ℕ, List, length, max, ◌++◌, Option, Some, None, is_some, Result, Ok, Err, if◌then◌else◌}
 use Rattle.std.specs.List.{list_any}
 use Rattle.ecs_id.specs.declared.EntityId.{EntityId}
@@ -35,31 +35,32 @@ abbrev pub session_error : CommandError → SessionError
 session_error (world.Refused reason) = Refused (OfWorld reason)
 session_error world.Memory = Memory
 
--- a call answers as the session does and leaves what it says: an accepted one answers the entity born. A refusal leaves
--- the session as it was, and so does refused memory, which may stand in place of any answer
+-- a call answers as the session of the definitions does, and leaves the session that it says: an accepted command
+-- answers the created entity. After a refusal the session is as before. After refused memory too, and that answer may
+-- stand in place of any other
 abbrev pub AnswersApply : Result (Option EntityId) SessionError → Answer → Standing → Standing → Type 0
 AnswersApply (Ok born) applied old new = applied ≡ Ok (session_of new, born)
 AnswersApply (Err (Refused reason)) applied old new = (applied ≡ Err reason) × (session_of new ≡ session_of old)
 AnswersApply (Err Memory) applied old new = session_of new ≡ session_of old
 
--- what waits after an accepted command: what it has changed, if a stored query is notified of commands
+-- what waits after an accepted command: its changes, if a stored query is notified of commands
 abbrev pub awaited : List Held → Changed → Option Changed
 awaited stored changed = if list_any (λ h. is_told h.kind) stored then Some changed else None
 
--- the answer to a command by what the world has made of it, and what waits before and after it
+-- the answer to a command, from what the world answered, and what waits before and after it
 abbrev pub AnswersCommand : List Held → Option Changed → Result Changed CommandError → Result (Option EntityId) SessionError → Option Changed → Type 0
 AnswersCommand stored before (Ok changed) answer after = (answer ≡ Ok changed.born) × (after ≡ awaited stored changed)
 AnswersCommand stored before (Err error) answer after = (answer ≡ Err (session_error error)) × (after ≡ before)
 
--- the rows of a kept query were appended to what was there, or a prefix of them where memory was refused; or there is
--- none of the name and nothing was
+-- the rows of a kept query were appended, or a prefix of them where memory was refused; or no kept query has the name,
+-- and nothing was appended
 abbrev pub AnswersRows : {T : Type 0} → Result T SessionError → SessionState → List ℕ → List ℕ → List ℕ → Type 0
 AnswersRows (Ok _) s name before after = (q : _) × (kept_query s name ≡ Ok q) × (after ≡ before ++ rows_text s.world q)
 AnswersRows (Err (Refused reason)) s name before after = (kept_query s name ≡ Err reason) × (after ≡ before)
 AnswersRows (Err Memory) s name before after = (q : _) × (kept_query s name ≡ Ok q) × StopsWithin before after (rows_text s.world q)
 
--- the rows of a kept query were appended to what was there, and a prefix of all that may be sent; or there is none of
--- the name, and nothing was
+-- the rows of a kept query were appended, and a prefix of what may be sent was sent; or no kept query has the name, and
+-- nothing was written or sent
 abbrev pub SendsKept : {T : Type 0} → ℕ → Result T SendRowsError → SessionState → List ℕ → Option (List ℕ) → Option (List ℕ) → List ℕ → List ℕ → Type 0
 SendsKept most (Ok _) s name old new before after = (q : _) × (kept_query s name ≡ Ok q) × IsSent old new before after (rows_text s.world q)
 SendsKept most (Err (rows.Refused reason)) s name old new before after = (kept_query s name ≡ Err reason) × (after ≡ before) × (new ≡ old)
@@ -75,6 +76,6 @@ SendsRows most (Err (rows.Unsent send.Memory)) q w old new before after = (q.kin
 SendsRows most (Err (rows.Unsent send.Write)) q w old new before after =
     (q.kind ≡ Kept) × StopsSending ⊥ old new before after (rows_text w (q.plan).query) × HoldsOneLine (max most (length before)) (lines_of_rows w (q.plan).query) after
 
--- where the calls of a writer were calm, they are faulty after a fault of a write, and calm after any other answer
+-- if the calls of a writer were calm, they are faulty after a failed write, and calm after any other answer
 abbrev pub FailsAtSend : {T : Type 0} → Calls → Result T SendRowsError → Calls → Type 0
 FailsAtSend old answer new = IsCalm old → (answer ≡ Err (rows.Unsent send.Write) → IsFaulty new) × (¬ (answer ≡ Err (rows.Unsent send.Write)) → IsCalm new)

@@ -1,4 +1,4 @@
--- The values of an id that all entities of a table get at once, in a session.
+-- Setting the value of an id for all entities of a table at once, in a session.
 use Rattle.std.specs.Prelude.{◌≡◌, ℕ, List, [], ◌∷◌, take, drop, Option, Some, None, is_some, option_map, Ok, if◌then◌else◌}
 use Rattle.std.specs.List.{list_any}
 use Rattle.ecs_id.specs.declared.EntityId.{EntityId}
@@ -17,18 +17,19 @@ use Rattle.ecs_observe.specs.Standing.{Standing, session_of}
 use Rattle.ecs_observe.specs.declared.errors.SetColumnError.{SetColumnError}
 use Rattle.ecs_observe.specs.declared.errors.SetColumnError.TheVariants.{EventsPending, Watched, OfWorld}
 
--- one `set` of each of these entities in turn, to the values that the bytes are, leads from a session to another: each is accepted
+-- one `set` for each of these entities in turn, to the values in the bytes, leads from session s to session t, and each
+-- is accepted
 abbrev pub AreSetIn : Id → Schema → List EntityId → List ℕ → SessionState → SessionState → Type 0
 AreSetIn i fs [] bytes s t = t ≡ s
 AreSetIn i fs (e ∷ es) bytes s t =
     (u : SessionState) × (carried_out s (SetValue e i (values_in fs (take (size_of fs) bytes))) ≡ Ok (u, None)) × AreSetIn i fs es (drop (size_of fs) bytes) u t
 
--- and so of the entities of the table under a key, by row
+-- the same for the entities of the table under a key, by row
 abbrev pub IsColumnSetIn : Standing → TableKey → Id → List ℕ → SessionState → Type 0
 IsColumnSetIn s k i bytes t = (a : _) × (fs : Schema) × (table_at (s.world).tables k ≡ Some a) × (type_of_id (s.world).state i ≡ Some fs) × AreSetIn i fs a.entities bytes (session_of s) t
 
--- why so many bytes are not set for the table under a key: a stored query is a watch, which is notified of each
--- command; else as the world judges
+-- why the values aren't set: events wait; a stored query is a monitor or an observer, which would be notified; or the
+-- world refuses it
 abbrev pub set_column_error : Standing → TableKey → Id → ℕ → Option SetColumnError
 set_column_error s k i n =
     if is_some s.waiting then Some EventsPending

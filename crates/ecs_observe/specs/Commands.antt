@@ -1,4 +1,4 @@
--- The commands of a session, as the definitions have them.
+-- The commands of a session, as commands of the definitions.
 use Rattle.std.specs.Prelude.{◌≡◌, Option, Some, None, Result, Ok, Err}
 use Rattle.ecs_id.specs.declared.EntityId.{EntityId}
 use Rattle.ecs_id.specs.Id.{Id}
@@ -32,7 +32,7 @@ order_of (Delete entity) = InWorld (DeleteOne (seen_reference entity))
 order_of (Store kind name text) = session.Store kind name.now text.now
 order_of (Drop name) = session.Drop name.now
 
--- the entity that was born
+-- the created entity
 abbrev pub born_of : Answer → Option EntityId
 born_of (Born e) = Some e
 born_of Done = None
@@ -41,22 +41,24 @@ abbrev pub answered : Result Answer SessionError → Result (Option EntityId) Se
 answered (Ok answer) = Ok (born_of answer)
 answered (Err error) = Err error
 
--- the entity and the id of references were found, or not: so for each command of an entity and an id
+-- whether the entity and the id of references were found, for every command with an entity and an id
 abbrev pub FindsBoth : WorldState → EntityRef → IdRef → Result (EntityId × Id) Refusal → Type 0
 FindsBoth w entity id (Err reason) = (f : EntityId → Id → world.Command) → with_both w f entity id ≡ Err reason
 FindsBoth w entity id (Ok both) = (f : EntityId → Id → world.Command) → with_both w f entity id ≡ Ok (f both.0 both.1)
 
--- the entity and the id were found, so that a command of them is what the session does; or each such command is refused for them
+-- the entity and the id were found, so the session carries out the command with them; or every such command is refused
+-- for them
 abbrev pub FindsIn : SessionState → EntityRef → IdRef → Result (EntityId × Id) SessionRefusal → Type 0
 FindsIn s r i (Ok both) = (f : EntityId → Id → world.Command) (order : WorldOrder) → command_of s.world order ≡ with_both s.world f r i → carried_out s (f both.0 both.1) ≡ apply s (InWorld order)
 FindsIn s r i (Err reason) = (f : EntityId → Id → world.Command) (order : WorldOrder) → command_of s.world order ≡ with_both s.world f r i → apply s (InWorld order) ≡ Err reason
 
--- the same of an entity that is to go
+-- the same for an entity that is to be deleted
 abbrev pub FindsOne : SessionState → EntityRef → Result EntityId SessionRefusal → Type 0
 FindsOne s r (Ok e) = carried_out s (world.Delete e) ≡ apply s (InWorld (DeleteOne r))
 FindsOne s r (Err reason) = apply s (InWorld (DeleteOne r)) ≡ Err reason
 
--- what becomes of the lists of kept queries, and of the tables where a query is stored or dropped: they stay
+-- what a command does to the lists of kept queries: a command of the world leaves them; storing or dropping a query
+-- leaves the others, and the tables
 abbrev pub ListsApply : {T E : Type 0} → SessionOrder → Result T E → Standing → Standing → Type 0
 ListsApply (InWorld order) r old new = new.stored ≡ old.stored
 ListsApply (session.Store kind n text) r old new = ListsOneMore r n old new × ((new.world).tables ≡ (old.world).tables)

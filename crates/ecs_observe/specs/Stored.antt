@@ -1,4 +1,4 @@
--- Stored queries as they are stored: in the order of making, counted, and each listed for what it looks out for.
+-- Stored queries as they are kept: in order, counted, and each listed for the changes that it listens for.
 use Rattle.std.specs.Prelude.{◌≡◌, ℕ, ◌<◌, Bool, true, List, map, length, slice_index_or}
 use Rattle.std.specs.List.{All, Contains, count_by}
 use Rattle.std.specs.declared.string.String.{String}
@@ -11,7 +11,7 @@ use Rattle.watch_index.specs.WatchOrder.{Boxed, IsOpen, IsWatched, occasions_in}
 use Rattle.ecs_observe.specs.declared.queries.StoredQueries.{StoredQueries}
 use Rattle.watch_stored.specs.declared.stored.StoredQuery.{StoredQuery}
 
--- the boxes of stored queries, in order
+-- the boxes of the stored queries, in order
 abbrev pub made_of : {A : Type 0} → StoredQueries A → List (Boxed (StoredQuery A) A)
 made_of s = s.all.order.made.items
 
@@ -22,7 +22,7 @@ entries_in bs = map (λ b. (b.value.name, b.value.value.value)) bs
 abbrev pub entries_of : {A : Type 0} → StoredQueries A → List (String A × StoredQuery A)
 entries_of s = entries_in (made_of s)
 
--- it is listed for all that a stored query of its kind and query looks out for
+-- it is listed for every change that a stored query of its kind and query listens for
 abbrev pub IsFit : {A : Type 0} → Boxed (StoredQuery A) A → Type 0
 IsFit b = occasions_in b ≡ occasions_of (b.value.value.value).kind ((b.value.value.value).plan).query
 
@@ -32,10 +32,10 @@ is_watch_in b = is_told (b.value.value.value).kind
 pub record IsStored {A : Type 0} (s : StoredQueries A) : Type 0 where
   pub watched : IsWatched s.all
   pub fit : All IsFit (made_of s)
-  -- those that are notified of commands
+  -- how many are notified of commands
   pub watches : s.watches ≡ count_by is_watch_in (made_of s)
 
--- a stored query is ready to be put after the others, and listed already
+-- a stored query is ready to be appended, and already listed
 pub record IsOpened {A : Type 0} (s : StoredQueries A) (name : String A) (q : StoredQuery A) (r : String A × Boxed (StoredQuery A) A) : Type 0 where
   pub open_one : IsOpen s.all name (r.1).value.value r
   pub query : (r.1).value.value.value ≡ q
@@ -43,7 +43,7 @@ pub record IsOpened {A : Type 0} (s : StoredQueries A) (name : String A) (q : St
   pub fit : All IsFit (made_of s)
   pub watches : s.watches ≡ count_by is_watch_in (made_of s)
 
--- all stand at these places whom what has changed may concern
+-- the place of each stored query that the changes may concern is among these places
 abbrev pub AreLedTo : {A : Type 0} → Changed → List (String A × StoredQuery A) → List ℕ → Type 0
 AreLedTo {A} changed es places = (i : ℕ) (d : String A × StoredQuery A) → i < length es
     → may_concern ((slice_index_or es i d).1).kind (((slice_index_or es i d).1).plan).query (has_births_or_deaths changed) changed.came changed.went changed.written ≡ true

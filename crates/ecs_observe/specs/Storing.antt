@@ -16,18 +16,18 @@ use Rattle.ecs_observe.specs.Standing.{Standing}
 use Rattle.ecs_observe.specs.declared.errors.SessionError.{SessionError}
 use Rattle.ecs_observe.specs.declared.errors.SessionError.TheVariants.{Refused, Memory}
 
--- the first reason against a new stored query but for its text
+-- the first reason against a new stored query, whatever its text
 abbrev pub store_refusal : SessionState → List ℕ → Option SessionRefusal
 store_refusal s n = if is_some s.waiting then Some EventsPending else first_reason (store_reasons s n)
 
--- a query as one of a kind: that which the text asks, or the first fault of the text or of its query for this kind; where memory is refused, it may say so in place of either
+-- the query of a text for a stored query of a kind, or the first fault of the text or of its query for this kind; where
+-- memory is refused, that answer may stand in place of either
 abbrev pub AnswersWatched : WorldState → StoredKind → List ℕ → Result Query SessionError → Type 0
 AnswersWatched w kind text (Ok q) = (query_of w text ≡ Ok q) × (watched kind q ≡ Ok q)
 AnswersWatched w kind text (Err (Refused reason)) = (f : Fault) × (reason ≡ Faulty f) × (watched_if_read kind (query_of w text) ≡ Err f)
 AnswersWatched w kind text (Err Memory) = ⊤
 
--- the evaluation for a new stored query of a kind, which this text asks, is counted; there was none for one that was
--- refused
+-- the evaluation for a new stored query of a kind with this text is counted; for a refused one there is none
 abbrev pub CountsStored : {T E : Type 0} → Result T E → StoredKind → List ℕ → Standing → Standing → Type 0
 CountsStored (Ok _) kind text old new = (q : Query) → query_of (old.world).state text ≡ Ok q → new.compared ≡ counted_for kind q old.compared
 CountsStored (Err _) kind text old new = new.compared ≡ old.compared

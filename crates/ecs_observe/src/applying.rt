@@ -1,4 +1,4 @@
-//! The commands of a session as values, with entities by name or by handle.
+//! The commands of a session as values, which give entities by name or by handle.
 
 ghost use Rattle.std.specs.Prelude.{◌≡◌, ◌≤◌, false};
 ghost use Rattle.std.specs.List.{list_any};
@@ -24,44 +24,44 @@ use std::alloc::{Allocator, Global};
 /// A command of a session.
 #[derive(Drop)]
 pub enum Command<'a, A: Allocator = Global> {
-    /// A new entity without a name.
+    /// Creates an entity without a name.
     New,
-    /// A new entity with a name.
+    /// Creates an entity with a name.
     Entity {
         name: &'a str,
     },
-    /// A new entity with a name and fields.
+    /// Creates an entity with a name and fields.
     Component {
         name: &'a str,
         schema: Schema<A>,
     },
-    /// A fact comes, and with it those that traits ask for.
+    /// Adds a fact, and the facts that traits require with it.
     Add {
         entity: Reference<'a>,
         id: IdReference<'a>,
     },
-    /// A fact gets a value, and comes if it isn't held.
+    /// Sets the value of a fact; adds the fact if it isn't held.
     Set {
         entity: Reference<'a>,
         id: IdReference<'a>,
         values: &'a [i128],
     },
-    /// A fact goes, if it is held.
+    /// Removes a fact, if it is held.
     Remove {
         entity: Reference<'a>,
         id: IdReference<'a>,
     },
-    /// An entity goes, and what its relationships say goes with it.
+    /// Deletes an entity, and what its relationships say to delete with it.
     Delete {
         entity: Reference<'a>,
     },
-    /// A query is kept under a name, or watched: by a monitor, or by an observer of one kind of events.
+    /// Stores a query under a name: as a kept query, as a monitor, or as an observer of one kind of event.
     Store {
         kind: StoredKind,
         name: &'a str,
         text: &'a str,
     },
-    /// The stored query of a name ends.
+    /// Drops the stored query with a name.
     Drop {
         name: &'a str,
     },
@@ -70,15 +70,15 @@ pub enum Command<'a, A: Allocator = Global> {
 /// The answer to a command that was carried out.
 #[derive(Clone, Copy, Debug, PartialEq, Eq)]
 pub enum Answer {
-    /// It has made this entity.
+    /// The command created this entity.
     Born(EntityId),
     Done,
 }
 
 impl<A: Allocator + Copy> Session<A> {
-    /// Carries out a command. It is refused as `EventsPending` while events wait; else as `OfWorld(Dead)` where one of
-    /// its handles is that of no live entity, and as `OfWorld(UnknownName)` where no entity has one of its names; and
-    /// else as the call of the same name refuses it.
+    /// Carries out a command. Refused as `EventsPending` while events wait; else as `OfWorld(Dead)` where one of its
+    /// handles is of no live entity; else as `OfWorld(UnknownName)` where no entity has one of its names; else as the
+    /// call of the same name refuses it.
     pub fn apply(&mut self, command: Command<'_, A>) -> Result<Answer, SessionError>
         ensures answers { AnswersApply (answered result) (apply (session_of self.old) (order_of command.entry)) self.old
             self.new }

@@ -1,4 +1,4 @@
-//! The values of an id that all entities of a table get at once.
+//! Setting the value of an id for all entities of a table at once.
 
 ghost use Rattle.std.specs.Prelude.{◌≡◌, MatchResult, None, OnErr, OnOk, Some, length};
 ghost use Rattle.ecs_observe.specs.Columns.{IsColumnSetIn, set_column_error};
@@ -11,12 +11,12 @@ use ecs_id::{Id, TableKey};
 use std::alloc::Allocator;
 
 impl<A: Allocator> Session<A> {
-    /// Sets the value of an id for each entity of a table, by row: the bytes of one value stand after those of another,
-    /// as in the column of a chunk.
+    /// Sets the value of an id for each entity of a table, row by row: `bytes` holds one value after another, as the
+    /// column of a chunk does.
     ///
-    /// It is as one `set` of each of them in turn. So it is refused while events wait, and while a stored query is a
-    /// watch, which is notified of each command; and else as the world refuses it. It looks nothing up for a row, and
-    /// takes no memory.
+    /// It does what one `set` for each of the entities in turn would do. So it is refused while events wait; while a
+    /// stored query is a monitor or an observer, which would have to be notified of each `set`; and where the world
+    /// refuses it. It looks nothing up for a row, and takes no memory.
     pub fn set_column(&mut self, key: TableKey, id: Id, bytes: &[u8]) -> Result<(), SetColumnError>
         ensures set { OnOk result (IsColumnSetIn self.old key id bytes.now (session_of self.new)) }
         ensures judged { MatchResult result (λ _. set_column_error self.old key id (length bytes.now) ≡ None)
@@ -32,7 +32,7 @@ impl<A: Allocator> Session<A> {
         if self.stored.has_watch() {
             return Err(SetColumnError::Watched);
         }
-        // What each `set` begins with.
+        // What each `set` would begin with.
         self.world.keeps();
         self.world.set_column(key, id, bytes)?;
         Ok(())

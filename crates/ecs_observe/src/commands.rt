@@ -17,10 +17,11 @@ use ecs_schema::Schema;
 use ecs_world::Changes;
 use std::alloc::Allocator;
 
-// Each answers the entity that it made, if it makes one. It is refused as `EventsPending` while events wait, and else
-// as the world refuses it. The lists of kept queries stay, and each fits the tables that the command leaves.
+// Each command answers the entity that it created, if it creates one. It is refused as `EventsPending` while events
+// wait, and else as the world refuses it. It leaves the lists of kept queries as they are, and each still fits the
+// tables.
 impl<A: Allocator + Copy> Session<A> {
-    /// Makes an entity without a name and without facts, and answers it.
+    /// Creates an entity without a name and without facts, and answers it.
     pub fn fresh(&mut self) -> Result<Option<EntityId>, SessionError>
         ensures answers { AnswersApply result (carried_out (session_of self.old) (Fresh)) self.old self.new }
         ensures compared { (self.new).compared ≡ (self.old).compared }
@@ -36,7 +37,7 @@ impl<A: Allocator + Copy> Session<A> {
         answer(&self.stored, &mut self.waiting, done)
     }
 
-    /// Makes an entity with a name and without facts, and answers it.
+    /// Creates an entity with a name and without facts, and answers it.
     pub fn entity(&mut self, name: &str) -> Result<Option<EntityId>, SessionError>
         ensures answers { AnswersApply result (carried_out (session_of self.old) (Entity name.now)) self.old self.new }
         ensures compared { (self.new).compared ≡ (self.old).compared }
@@ -52,7 +53,7 @@ impl<A: Allocator + Copy> Session<A> {
         answer(&self.stored, &mut self.waiting, done)
     }
 
-    /// Makes an entity with a name and fields, which holds the tag `Component`, and answers it.
+    /// Creates an entity with a name and fields, which holds the tag `Component`, and answers it.
     pub fn component(
         &mut self,
         name: &str,
@@ -73,7 +74,7 @@ impl<A: Allocator + Copy> Session<A> {
         answer(&self.stored, &mut self.waiting, done)
     }
 
-    /// Adds a fact. With it come those that traits ask for.
+    /// Adds a fact, and the facts that traits require with it.
     pub fn add(&mut self, entity: EntityId, id: Id) -> Result<Option<EntityId>, SessionError>
         ensures answers { AnswersApply result (carried_out (session_of self.old) (Add entity id)) self.old self.new }
         ensures compared { (self.new).compared ≡ (self.old).compared }
@@ -89,7 +90,7 @@ impl<A: Allocator + Copy> Session<A> {
         answer(&self.stored, &mut self.waiting, done)
     }
 
-    /// Sets the value of a fact, which comes if it isn't held.
+    /// Sets the value of a fact; adds the fact if it isn't held.
     pub fn set(
         &mut self,
         entity: EntityId,
@@ -127,7 +128,7 @@ impl<A: Allocator + Copy> Session<A> {
         answer(&self.stored, &mut self.waiting, done)
     }
 
-    /// Deletes an entity, and what its relationships say goes with it.
+    /// Deletes an entity, and what its relationships say to delete with it.
     pub fn delete(&mut self, entity: EntityId) -> Result<Option<EntityId>, SessionError>
         ensures answers { AnswersApply result (carried_out (session_of self.old) (Delete entity)) self.old self.new }
         ensures compared { (self.new).compared ≡ (self.old).compared }
@@ -144,8 +145,7 @@ impl<A: Allocator + Copy> Session<A> {
     }
 }
 
-/// The answer to a command that the world has carried out or not. What it has changed waits if a stored query is
-/// notified of it.
+/// The answer to a command, from what the world answered. If a stored query is notified of commands, the changes wait.
 #[inline(always)]
 fn answer<A: Allocator>(
     stored: &StoredQueries<A>,

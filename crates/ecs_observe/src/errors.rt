@@ -6,7 +6,7 @@ use std::alloc::AllocError;
 use thiserror::Error;
 use world_query::SendError;
 
-/// Why a command of a session was not carried out: a refusal by the rules, or memory that was refused.
+/// Why a command of a session was not carried out: it is refused by the rules, or memory was refused.
 #[derive(Clone, Copy, Debug, PartialEq, Eq, Error)]
 pub enum SessionError {
     #[error("refused: {0}")]
@@ -15,14 +15,13 @@ pub enum SessionError {
     Memory,
 }
 
-/// Why the values of a table's entities are not set in a session. Of the reasons that apply, the first in this order is
-/// answered.
+/// Why the values of a table's entities are not set. If several reasons apply, the first in this order is answered.
 #[derive(Clone, Copy, Debug, PartialEq, Eq, Error)]
 pub enum SetColumnError {
     /// Events wait to be delivered.
     #[error("events wait to be delivered")]
     EventsPending,
-    /// A stored query is a monitor or an event observer, which is notified of each command.
+    /// A stored query is a monitor or an observer, which is notified of each command.
     #[error("a stored query is notified of each command")]
     Watched,
     /// The world refuses it.
@@ -79,7 +78,7 @@ impl From<CommandError> for SessionError {
     }
 }
 
-/// Why the rows of a kept query were not sent: there is none of the name, or memory was refused, or a write failed.
+/// Why the rows of a kept query were not sent: no kept query has the name, or memory was refused, or a write failed.
 #[derive(Clone, Copy, Debug, PartialEq, Eq, Error)]
 pub enum SendRowsError {
     #[error("refused: {0}")]

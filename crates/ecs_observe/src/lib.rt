@@ -1,8 +1,8 @@
-//! A session: a world, the queries that are stored in it, and what monitors and event observers are notified of after
-//! its commands.
+//! A session: a world, its stored queries, and the events that monitors and observers are notified of after each
+//! command.
 //!
-//! If a stored query is a watch, events wait after an accepted command of the world, and no other command is carried
-//! out before `events` has delivered them.
+//! If a stored query is a monitor or an observer, events wait after an accepted command of the world, and no other
+//! command is carried out until `events` has delivered them.
 #![tactic(auto)]
 
 mod applying;

@@ -1,4 +1,4 @@
-//! The stored queries of a session, in the order of making.
+//! The stored queries of a session, in the order in which they were stored.
 
 ghost use Rattle.std.specs.Prelude.{◌≡◌, ◌↔◌, ◌<◌, ◌++◌, ◌∷◌, [], All, IfNone, IfOk, IfSome, IsSome, None, OnErr, OnOk};
 ghost use Rattle.std.specs.Prelude.{Some, is_some, length, map, option_map};
@@ -24,7 +24,8 @@ use watch_index::{Boxed, Happened, WatchOrder, Watcher, occasions_of};
 use watch_stored::{RowsAfter, StoredQuery, is_told};
 use watch_touched::has_births_or_deaths;
 
-/// Stored queries in the order of making, with what each looks out for, and how many of them are notified of commands.
+/// Stored queries in the order in which they were stored, with the changes that each listens for, and how many of them
+/// are notified of commands.
 #[derive(Drop)]
 pub(crate) struct StoredQueries<A: Allocator> {
     pub(crate) all: WatchOrder<StoredQuery<A>, A>,
@@ -43,10 +44,10 @@ impl<A: Allocator + Copy> StoredQueries<A> {
         }
     }
 
-    /// Makes a stored query ready to be put after the others, and lists it for what it looks out for. Then it is put or
-    /// forgotten.
+    /// Makes a stored query ready for `put`, and lists it for the changes that it listens for. It has to be put next:
+    /// until then the index lists a query that isn't there.
     ///
-    /// Fails where memory is refused, and then nothing has changed.
+    /// Fails where memory is refused; then nothing has changed.
     pub(crate) fn prepare(
         &mut self,
         alloc: A,
@@ -67,8 +68,8 @@ impl<A: Allocator + Copy> StoredQueries<A> {
         self.all.prepare(alloc, name, watcher)
     }
 
-    /// Puts into an empty list the places of the stored queries that look out for something that a command did, in
-    /// order: no other is notified of anything.
+    /// Puts the places of the stored queries that listen for one of the changes into an empty list, in ascending order.
+    /// No other stored query is notified of anything.
     ///
     /// Fails where memory is refused.
     pub(crate) fn led(
@@ -110,7 +111,7 @@ impl<A: Allocator> StoredQueries<A> {
         self.watches > 0
     }
 
-    /// The stored query of a name.
+    /// The stored query with a name.
     pub(crate) fn get(&self, name: &str) -> Option<&StoredQuery<A>>
         requires stored { IsStored self.now }
         ensures { option_copied result ≡ lookup (is_key name.now) (entries_of self.now) }
@@ -121,7 +122,7 @@ impl<A: Allocator> StoredQueries<A> {
         }
     }
 
-    /// Where the stored query of a name stands.
+    /// The place of the stored query with a name.
     pub(crate) fn place_of(&self, name: &str) -> Option<usize>
         requires stored { IsStored self.now }
         ensures { IsPlaceOf name.now (made_of self.now) result }
@@ -129,7 +130,7 @@ impl<A: Allocator> StoredQueries<A> {
         self.all.order.place_of(name)
     }
 
-    /// Whether one has a name.
+    /// Whether a stored query has this name.
     pub(crate) fn contains_key(&self, name: &str) -> bool
         requires stored { IsStored self.now }
         ensures { result ≡ is_some (lookup (is_key name.now) (entries_of self.now)) }
@@ -148,7 +149,7 @@ impl<A: Allocator> StoredQueries<A> {
         }
     }
 
-    /// Whether the one at a place is a monitor whose events follow from the entities that a command touched.
+    /// Whether the stored query at a place is a monitor whose events follow from the entities that a command touched.
     pub(crate) fn is_told_locally_at(&self, place: usize) -> bool
         ensures { result ≡ is_locally_at (entries_of self.now) place }
     {
@@ -158,7 +159,7 @@ impl<A: Allocator> StoredQueries<A> {
         }
     }
 
-    /// Puts a stored query that was made ready after the others. None of them has its name.
+    /// Appends a stored query that `prepare` made ready. No other has its name.
     pub(crate) fn put(&mut self, key: String<A>, made: Boxed<StoredQuery<A>, A>)
         requires opened { IsOpened self.old made.value.name made.value.value.value (key, made) }
         requires free { lookup (is_key (string_bytes made.value.name)) (entries_of self.old) ≡ None }
@@ -170,7 +171,7 @@ impl<A: Allocator> StoredQueries<A> {
         self.all.put(key, made);
     }
 
-    /// Takes out the stored query of a name. No other is moved, and no memory taken.
+    /// Removes the stored query with a name and returns it. No other is moved, and no memory is taken.
     pub(crate) fn remove(&mut self, name: &str) -> Option<Boxed<StoredQuery<A>, A>>
         requires stored { IsStored self.old }
         ensures value { option_map (λ b. b.value.value.value) result ≡ lookup (is_key name.now) (entries_of self.old) }
@@ -186,7 +187,7 @@ impl<A: Allocator> StoredQueries<A> {
         Some(made)
     }
 
-    /// Keeps the entities of the rows of the one at a place as they are after a command, if there is one.
+    /// Keeps the rows of the monitor at a place as they are after a command, if there is one.
     pub(crate) fn keep(&mut self, place: usize, rows: &mut RowsAfter<A>)
         requires stored { IsStored self.old }
         ensures held { entries_of self.new ≡ with_kept_at place rows.old (entries_of self.old) }

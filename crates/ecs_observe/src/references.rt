@@ -1,5 +1,5 @@
-//! Entities and ids by name or by handle, looked up in a world. A dead handle comes before an unknown name, wherever
-//! the two stand.
+//! Entities and ids by name or by handle, looked up in a world. A dead handle is reported before an unknown name,
+//! wherever the two stand.
 
 ghost use Rattle.std.specs.Prelude.{◌≡◌, IfOk, IfSome, IsTrue};
 ghost use Rattle.std.specs.List.{list_any};
@@ -15,8 +15,8 @@ use ecs_model::references::{IdReference, Reference};
 use ecs_world::World;
 use std::alloc::Allocator;
 
-/// The entity of a reference. Refused as `Dead` where it is the handle of no live entity, and as `UnknownName` where no
-/// entity has the name.
+/// The entity of a reference. Refused as `Dead` where a handle is of no live entity, and as `UnknownName` where no
+/// entity has a name.
 pub fn find_entity<A: Allocator>(
     world: &World<A>,
     entity: Reference<'_>,
@@ -33,7 +33,7 @@ pub fn find_entity<A: Allocator>(
     }
 }
 
-/// The entity of a reference and the id of others. A dead handle among them comes before an unknown name.
+/// The entity of a reference, and the id of others. A dead handle among them is reported before an unknown name.
 #[inline(always)]
 pub fn find_both<A: Allocator>(
     world: &World<A>,
@@ -54,7 +54,7 @@ pub fn find_both<A: Allocator>(
     Ok((entity, id))
 }
 
-/// Whether a reference is the handle of no live entity.
+/// Whether a reference is a handle of no live entity.
 fn is_dead_handle<A: Allocator>(world: &World<A>, reference: Reference<'_>) -> bool
     ensures { result ≡ is_dead_handle world.now.state (seen_reference reference.entry) }
 {
@@ -64,7 +64,7 @@ fn is_dead_handle<A: Allocator>(world: &World<A>, reference: Reference<'_>) -> b
     }
 }
 
-/// Whether some reference of an id is the handle of no live entity.
+/// Whether a reference in an id is a handle of no live entity.
 #[inline(always)]
 fn names_dead_handle<A: Allocator>(world: &World<A>, id: IdReference<'_>) -> bool
     ensures { result ≡ list_any (is_dead_handle world.now.state) (refs_of_id (seen_id id.entry)) }
@@ -97,7 +97,7 @@ fn live_entity<A: Allocator>(world: &World<A>, reference: Reference<'_>) -> Opti
     }
 }
 
-/// The id of references, where each is that of a live entity.
+/// The id of references, if each is of a live entity.
 #[inline(always)]
 fn live_id<A: Allocator>(world: &World<A>, id: IdReference<'_>) -> Option<Id>
     ensures { result ≡ id_found world.now.state (seen_id id.entry) }

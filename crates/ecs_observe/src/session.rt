@@ -1,4 +1,4 @@
-//! The parts of a session.
+//! A session and its parts.
 
 ghost use Rattle.std.specs.Prelude.{◌≡◌, ℕ, All, IfOk, List, Ok, is_some};
 ghost use Rattle.ecs_model.specs.stored.Session.{first_session, kept_query};
@@ -14,21 +14,21 @@ use std::hash::RandomState;
 use std::marker::Model;
 use watch_stored::Report;
 
-/// A world, the queries that are stored in it, and what they are yet to be notified of.
+/// A world, its stored queries, and the changes that they are still to be notified of.
 pub struct Session<A: Allocator = Global> {
     pub(crate) world: World<A>,
     pub(crate) stored: StoredQueries<A>,
-    /// What the last accepted command has changed, until its events are delivered. It is there only while a stored
-    /// query is a watch.
+    /// The changes of the last accepted command, until their events are delivered. None unless a stored query is a
+    /// monitor or an observer.
     pub(crate) waiting: Option<Changes<A>>,
-    /// How often a monitor was evaluated.
+    /// How often all rows of a monitor were found.
     pub(crate) compared: u64,
-    /// Room for what stored queries report, of one command after another.
+    /// Room for what stored queries report, used for one command after another.
     pub(crate) report: Report<A>,
     pub(crate) alloc: A,
 }
 
-// By hand, so that the drops of its parts are proved here, and not again wherever one goes.
+// Written by hand, so that it is proved once here that all parts can be dropped.
 impl<A: Allocator> Drop for Session<A> {
     fn drop(self) {
         let Self {
@@ -69,8 +69,8 @@ impl<A: Allocator> Model for Session<A> {
 impl<A: Allocator + Copy> Session<A> {
     /// A session of a new world, in which no query is stored.
     ///
-    /// Names, ids and tables are hashed with these random keys, so that nobody can choose any that make look-ups slow.
-    /// Fails where memory is refused.
+    /// Names, ids and tables are hashed with these random keys, so that nobody can choose names that make look-ups
+    /// slow. Fails where memory is refused.
     pub fn new(alloc: A, random: RandomState) -> Result<Self, AllocError>
         ensures first { IfOk result (λ s. session_of s ≡ first_session) }
         ensures compared { IfOk result (λ s. s.compared ≡ 0) }
@@ -90,8 +90,9 @@ impl<A: Allocator + Copy> Session<A> {
 }
 
 impl<A: Allocator> Session<A> {
-    /// Law: what every session keeps. Its stored queries are current in its world, so that they may be asked; each kept
-    /// query, and no other, has a list, which fits the tables of the world. The call does nothing.
+    /// Law: what every session keeps. Its stored queries are current in its world, so their rows can be found; each
+    /// kept query has a list that fits the tables of the world, and no other stored query has one. The call does
+    /// nothing.
     pub fn keeps(&self)
         ensures session { IsSession self.now }
         ensures lists { All (HasItsList (self.now).world.tables) (self.now).stored }
@@ -108,12 +109,12 @@ impl<A: Allocator> Session<A> {
         &self.world
     }
 
-    /// How often a monitor was evaluated so far, which finds all its rows. It never falls, and stays at its greatest
-    /// number.
+    /// How often monitors were evaluated so far, which means that all their rows were found. It never falls, and at its
+    /// greatest number it stays.
     ///
-    /// A monitor is evaluated when it is stored, and after commands that concern its query, unless its rows follow from
-    /// the facts that came and went, but for few entities, who are asked. Monitors of local queries never are: their
-    /// events follow from the entities that a command touched.
+    /// A monitor is evaluated when it is stored, and after each command that concerns its query, unless its rows follow
+    /// from the rows before and the changed facts, except for a few candidates, which are searched one by one. A
+    /// monitor of a local query is never evaluated: its events follow from the entities that a command touched.
     pub fn compared(&self) -> u64
         ensures { result ≡ (self.now).compared }
     {

@@ -26,11 +26,12 @@ use watch_stored::{StoredQuery, stored_query};
 const MOST_STORED: usize = 1024;
 
 impl<A: Allocator + Copy> Session<A> {
-    /// Stores the query that a text asks, under a new name. What it names can't be deleted while it is stored.
+    /// Stores the query of a text under a new name. The entities that it names can't be deleted while it is stored. It
+    /// answers no entity.
     ///
-    /// Refused in this order: while events wait, of a text that is no name, of a name that a stored query has, of more
-    /// than 1,024 stored queries, and with the fault of the text, or of its query for this kind: a watch needs `$this`,
-    /// and an event observer has one term. It answers no entity.
+    /// Refused in this order: while events wait; where the text of the name is no name; where a stored query has the
+    /// name; where 1,024 queries are stored; with the fault of the text; and with the fault of the query for its kind:
+    /// a monitor or an observer needs `$this`, and an observer has exactly one term.
     pub fn store(
         &mut self,
         kind: StoredKind,
@@ -56,8 +57,8 @@ impl<A: Allocator + Copy> Session<A> {
         Ok(None)
     }
 
-    /// Ends the stored query of a name. Refused while events wait, and where no stored query has the name. It answers
-    /// no entity.
+    /// Drops the stored query with a name. Refused while events wait, and where no stored query has the name. It
+    /// answers no entity.
     pub fn drop_stored(&mut self, name: &str) -> Result<Option<EntityId>, SessionError>
         ensures answers { AnswersApply result (apply (session_of self.old) (Drop name.now)) self.old self.new }
         ensures compared { (self.new).compared ≡ (self.old).compared }
@@ -74,7 +75,7 @@ impl<A: Allocator + Copy> Session<A> {
         Ok(None)
     }
 
-    /// Why a query can't be stored under a name, apart from its text.
+    /// Why a query can't be stored under a name, whatever its text.
     fn store_refusal(&self, name: &str) -> Option<SessionRefusal>
         ensures { result ≡ store_refusal (session_of self.now) name.now }
     {
@@ -93,10 +94,9 @@ impl<A: Allocator + Copy> Session<A> {
         None
     }
 
-    /// Puts a stored query after the others, under a name that none of them has. `compared` is how often a monitor was
-    /// evaluated by then.
+    /// Appends a stored query under a name that no other has. `compared` is how often monitors were evaluated by then.
     ///
-    /// Fails where memory is refused, and then nothing has changed.
+    /// Fails where memory is refused; then nothing has changed.
     fn hold(
         &mut self,
         name: String<A>,

@@ -1,4 +1,4 @@
-//! Telling the events of a command.
+//! Delivering the events of a command.
 
 ghost use Rattle.std.specs.Prelude.{◌≡◌, ◌+◌, ◌≤◌, ◌++◌, IfOk, OnErr, OnOk, flat_map, min, false, true};
 ghost use Rattle.std.specs.List.{list_any};
@@ -23,17 +23,19 @@ use watch_events::{Event, write_event};
 use watch_stored::{Effect, Listener, Report, RowsAfter, tell_one};
 use watch_touched::touched;
 
-/// For so many events at most the session keeps the room in which they were told.
+/// The session keeps the room of at most so many events.
 const FEW_EVENTS: usize = 4;
 
 impl<A: Allocator + Copy> Session<A> {
-    /// The events that wait, of one stored query after another in the order of making. After that none wait.
+    /// The events that wait, one stored query after another in the order in which they were stored. After the call none
+    /// wait.
     ///
-    /// Of a monitor those that left come first, each by ascending index. One whose query is local is told by the
-    /// entities that the command touched. Of another all rows are compared, if the command concerns its query: else
-    /// they are of the same entities, and it is told nothing. Where those before and the facts that came and went tell
-    /// them but for few entities, these alone are searched for; else all are taken. Fails where memory is refused, and
-    /// then they still wait.
+    /// For a monitor the entities that left come first; both those and the ones that entered come by ascending index.
+    /// If its query is local, its events follow from the entities that the command touched. Else, if the command
+    /// doesn't concern its query, its rows stay and it gets no events. Else, if the changes leave only a few
+    /// candidates, these are searched; if not, all rows are found and compared with those before.
+    ///
+    /// Fails where memory is refused; then the events still wait.
     pub fn events(&mut self) -> Result<Vec<Event<A>, A>, AllocError>
         ensures told { IfOk result (λ told. told.items ≡ events (session_of self.old)) }
         ensures after { OnOk result (session_of self.new ≡ after_events (session_of self.old)) }
@@ -63,12 +65,12 @@ impl<A: Allocator + Copy> Session<A> {
         Ok(self.report.take_events())
     }
 
-    /// Writes the lines of the events that wait after what is there, in their order, as `write_event` does one. After
-    /// that none wait.
+    /// Appends the lines of the events that wait, in their order, each as `write_event` writes it. After the call none
+    /// wait.
     ///
-    /// The room for few events stays with the session, so that the next command needs none. Fails where memory is
-    /// refused, and then a prefix of the lines may be written, or the events still wait.
-    // (out of line, so that a command after which nothing waits pays nothing for it)
+    /// Room for a few events stays with the session, so that the next command takes none. Fails where memory is
+    /// refused; then a prefix of the lines may be written, and the events still wait.
+    // (out of line, so that a command without waiting events pays nothing for it)
     #[inline(never)]
     pub fn write_events(&mut self, output: &mut Vec<u8, A>) -> Result<(), AllocError>
         ensures written { OnOk result (output.new.items ≡ output.old.items
@@ -101,14 +103,14 @@ impl<A: Allocator + Copy> Session<A> {
     }
 }
 
-/// Gives the room for events back, if more than few were told in it.
+/// Gives the room back, if there were more than a few events.
 fn keep_few<A: Allocator + Copy>(told: &mut Vec<Event<A>, A>) {
     if told.len() > FEW_EVENTS {
         *told = Vec::new(*told.allocator());
     }
 }
 
-/// Writes the lines of events.
+/// Appends the lines of events.
 fn write_all<A: Allocator>(events: &[Event<A>], output: &mut Vec<u8, A>) -> Result<(), AllocError>
     ensures { OnOk result (output.new.items ≡ output.old.items ++ flat_map event_text events.now) }
 {
@@ -118,7 +120,8 @@ fn write_all<A: Allocator>(events: &[Event<A>], output: &mut Vec<u8, A>) -> Resu
     Ok(())
 }
 
-/// Puts what all stored queries report of a command after what is in a report, by those that it leads to.
+/// Appends what all stored queries report of a command to the report. The index leads to the queries that may report
+/// something.
 #[inline(always)]
 fn tell_led<A: Allocator + Copy>(
     effect: &Effect<'_, A>,
@@ -139,7 +142,7 @@ fn tell_led<A: Allocator + Copy>(
     tell_places(effect, stored, places, report)
 }
 
-/// The same by those at these places.
+/// The same for the stored queries at these places.
 #[inline(never)]
 fn tell_places<A: Allocator + Copy>(
     effect: &Effect<'_, A>,
@@ -157,7 +160,7 @@ fn tell_places<A: Allocator + Copy>(
     tell_all(effect, touched, stored, places, report)
 }
 
-/// The entities that a command touched, if a monitor at one of these places is told by them, and else none.
+/// The entities that a command touched, if the events of a monitor at one of these places follow from them; else none.
 fn touched_if_asked<'w, A: Allocator + Copy>(
     alloc: A,
     effect: &Effect<'w, A>,
@@ -175,7 +178,7 @@ fn touched_if_asked<'w, A: Allocator + Copy>(
     }
 }
 
-/// Whether a stored query at one of these places is told by the entities that a command touched.
+/// Whether the events of a stored query at one of these places follow from the entities that a command touched.
 fn is_told_locally_at<A: Allocator>(stored: &StoredQueries<A>, places: &[u64]) -> bool
     ensures { result ≡ any_locally_at (entries_of stored.now) places.now }
 {
@@ -184,8 +187,7 @@ fn is_told_locally_at<A: Allocator>(stored: &StoredQueries<A>, places: &[u64]) -
         .any(|place| stored.is_told_locally_at(*place as usize))
 }
 
-/// Puts what all stored queries report of a command after what is in a report, by those at these places: no other
-/// reports anything.
+/// Appends what all stored queries report of a command to the report. Only those at these places report anything.
 fn tell_all<A: Allocator + Copy>(
     effect: &Effect<'_, A>,
     touched: &[Touched<'_, A>],
@@ -210,7 +212,7 @@ fn tell_all<A: Allocator + Copy>(
     Ok(())
 }
 
-/// Keeps the entities of the rows that stored queries were told, where they don't stay.
+/// Keeps the changed rows of monitors, each with its stored query.
 fn put_rows<A: Allocator>(stored: &mut StoredQueries<A>, rows: &mut Vec<(usize, RowsAfter<A>), A>)
     requires stored { IsStored stored.old }
     ensures held { entries_of stored.new ≡ with_all_kept rows.old.items (entries_of stored.old) }
@@ -224,7 +226,7 @@ fn put_rows<A: Allocator>(stored: &mut StoredQueries<A>, rows: &mut Vec<(usize, 
     }
 }
 
-/// Keeps the entities of the rows that one was told.
+/// Keeps the changed rows of one monitor.
 fn keep_placed<A: Allocator>(stored: &mut StoredQueries<A>, placed: &mut (usize, RowsAfter<A>))
     requires stored { IsStored stored.old }
     ensures held { entries_of stored.new ≡ with_kept_at placed.old.0 placed.old.1 (entries_of stored.old) }
