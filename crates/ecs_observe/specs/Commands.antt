@@ -41,7 +41,8 @@ abbrev pub answered : Result Answer SessionError → Result (Option EntityId) Se
 answered (Ok answer) = Ok (born_of answer)
 answered (Err error) = Err error
 
--- whether the entity and the id of references were found, for every command with an entity and an id
+-- the entity and the id that references give, so that every command with them goes to the world; or the reason for
+-- which every such command is refused
 abbrev pub FindsBoth : WorldState → EntityRef → IdRef → Result (EntityId × Id) Refusal → Type 0
 FindsBoth w entity id (Err reason) = (f : EntityId → Id → world.Command) → with_both w f entity id ≡ Err reason
 FindsBoth w entity id (Ok both) = (f : EntityId → Id → world.Command) → with_both w f entity id ≡ Ok (f both.0 both.1)

@@ -30,7 +30,7 @@ has_searched s = option_map_or (λ changed. list_any (is_searched changed) s.sto
 abbrev pub searched_in : Standing → ℕ
 searched_in s = option_map_or (λ changed. count_by (is_searched changed) s.stored) s.waiting 0
 
--- how many surely are, because their candidates can't be found
+-- how many are evaluated in any case, because their candidates can't be found
 abbrev pub taken_in : Standing → ℕ
 taken_in s = option_map_or (λ changed. count_by (is_taken_whole changed) s.stored) s.waiting 0
 

@@ -15,8 +15,8 @@ use ecs_model::references::{IdReference, Reference};
 use ecs_world::World;
 use std::alloc::Allocator;
 
-/// The entity of a reference. Refused as `Dead` where a handle is of no live entity, and as `UnknownName` where no
-/// entity has a name.
+/// The entity of a reference. Refused as `Dead` where the handle is of no live entity, and as `UnknownName` where no
+/// entity has the name.
 pub fn find_entity<A: Allocator>(
     world: &World<A>,
     entity: Reference<'_>,

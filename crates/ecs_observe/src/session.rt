@@ -109,12 +109,12 @@ impl<A: Allocator> Session<A> {
         &self.world
     }
 
-    /// How often monitors were evaluated so far, which means that all their rows were found. It never falls, and at its
+    /// How often monitors were evaluated so far: how often all rows of one were found. It never falls, and at its
     /// greatest number it stays.
     ///
-    /// A monitor is evaluated when it is stored, and after each command that concerns its query, unless its rows follow
-    /// from the rows before and the changed facts, except for a few candidates, which are searched one by one. A
-    /// monitor of a local query is never evaluated: its events follow from the entities that a command touched.
+    /// A monitor is evaluated when it is stored, and after each command that concerns its query, unless only a few
+    /// candidates may have entered or left its rows: then these alone are judged. A monitor of a local query is never
+    /// evaluated: its events follow from the entities that a command touched.
     pub fn compared(&self) -> u64
         ensures { result ≡ (self.now).compared }
     {

@@ -30,10 +30,10 @@ impl<A: Allocator + Copy> Session<A> {
     /// The events that wait, one stored query after another in the order in which they were stored. After the call none
     /// wait.
     ///
-    /// For a monitor the entities that left come first; both those and the ones that entered come by ascending index.
-    /// If its query is local, its events follow from the entities that the command touched. Else, if the command
-    /// doesn't concern its query, its rows stay and it gets no events. Else, if the changes leave only a few
-    /// candidates, these are searched; if not, all rows are found and compared with those before.
+    /// For a monitor the entities that left its rows come first, then those that entered, each by ascending index. If
+    /// its query is local, they follow from the entities that the command touched. Else, if the command doesn't concern
+    /// its query, there are none. Else, if only a few candidates may have left or entered, these are judged; if there
+    /// are more, or they can't be found, all rows are found and compared with those before.
     ///
     /// Fails where memory is refused; then the events still wait.
     pub fn events(&mut self) -> Result<Vec<Event<A>, A>, AllocError>

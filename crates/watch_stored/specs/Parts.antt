@@ -25,6 +25,6 @@ put_in put rows these = if put then Some (kept_rows rows these).items else None
 abbrev pub with_kept : {A : Type 0} → RowsAfter A → StoredQuery A → StoredQuery A
 with_kept rows q = record q { these = kept_rows rows q.these }
 
--- one more entry, the rows of a stored query with its place, is appended; or nothing is
+-- the rows of one more stored query are appended with its place; or nothing is put and nothing is appended
 abbrev pub IsPut : {A : Type 0} → Option (List ℕ) → ℕ → StoredQuery A → List (ℕ × RowsAfter A) → List (ℕ × RowsAfter A) → Type 0
 IsPut {A} put n q before after = ((put ≡ None) × (after ≡ before)) ⊎ ((rows : RowsAfter A) × ((put ≡ Some (kept_rows rows q.these).items) × (after ≡ before ++ (n, rows) ∷ [])))

@@ -63,7 +63,7 @@ struct Question<'q, A: Allocator> {
 }
 
 /// For a monitor whose query isn't local. Answers whether the command concerns the query; if so, `rows` gets the
-/// entities that left and entered. Where every candidate is known, its ids or a search for it alone decide; else all
+/// entities that left and entered. Where every candidate is known, its own ids decide, or a search for it; else all
 /// rows are found, compared with those before, and counted. One room serves the searches of any number of queries.
 ///
 /// Fails where memory is refused.

@@ -317,8 +317,9 @@ impl<'a, 'q, A: Allocator + Copy, B: Allocator> Happened<'a, 'q, A, B> {
     }
 
     /// For a linked query. Adds each entity from which the query's terms lead to the holder of a changed fact that the
-    /// query asks of a variable besides `$this`. Adds each entity that holds a pair whose target is in `below`, or is
-    /// below one of these. Then sorts the list. Answers false where there may be too many.
+    /// query asks of a variable besides `$this`. Adds each entity that holds a pair whose target is in `below`, the
+    /// entities with a changed fact that concerns entities below, and all entities below them. Then sorts the list.
+    /// Answers false where there may be too many.
     fn push_moved_by_roles(
         &self,
         asked: &AskedTerms<B>,
