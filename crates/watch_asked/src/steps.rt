@@ -25,6 +25,7 @@ pub struct LinkStep {
 }
 
 impl LinkStep {
+    /// The earlier variable.
     #[inline(always)]
     pub fn from(&self) -> usize
         ensures { result ≡ self.now.from }
@@ -32,6 +33,7 @@ impl LinkStep {
         self.from
     }
 
+    /// The later variable.
     #[inline(always)]
     pub fn to(&self) -> usize
         ensures { result ≡ self.now.to }
