@@ -1,9 +1,19 @@
 #!/usr/bin/env python3
-"""believe.py [--check]: writes docs/BELIEVE.md, what one has to read to know what the contract of `world_script::run` says.
+"""believe.py [--check]: makes what is made of docs/BELIEVE.md, and docs/definitions.txt: what one has to read to know what the contract of
+`world_script::run` says.
 
-It begins with the clauses of `run` and goes down: each definition of specs/ that a clause or a definition names is listed with its file, its line
-and the comment above it, in the order in which a reader comes to it. Names are found by the `use` lines of each file, so nothing is listed that isn't
-named. With --check it writes nothing, and says whether the page is as it would be written: status 1 if not.
+It begins with the clauses of `run` and the members of the traits that bound its types, and goes down: each definition of specs/ that one of these or
+a definition names, and each type of the code. Names are found by the `use` lines of each file, so nothing is listed that isn't named, and a name that
+isn't found is an error. docs/definitions.txt has all of them in the order in which a reader comes to them. In docs/BELIEVE.md the blocks between
+`<!-- KIND: NAMES -->` and `<!--end-->` are made anew, and the text around them is left as it is:
+
+- `contract: NAME ..`: these clauses of `run`
+- `quoted: NAME ..`: definitions with their links, without comments and types; `FILE:NAME` where a name is that of several
+- `counts`: how much is reached, and how much of it is in each part
+- `laws`: the laws in place of functions
+
+With --check it writes nothing, and says what isn't as it would be written, and which link of docs/BELIEVE.md or docs/LANGUAGE.md, such as
+[`effect_of`](../crates/ecs_model/specs/Output.antt), is to a file that has no such definition: status 1 if there is any.
 """
 import collections
 import glob
@@ -12,10 +22,11 @@ import re
 import sys
 
 TOP = os.path.realpath(os.path.join(os.path.dirname(os.path.realpath(__file__)), ".."))
-PAGE = os.path.join(TOP, "docs", "BELIEVE.md")
+PAGE, INDEX = "docs/BELIEVE.md", "docs/definitions.txt"
+LINKING = (PAGE, "docs/LANGUAGE.md")
 ROOT_FILE, ROOT_FUNCTION = "crates/world_script/src/runs.rt", "run"
 
-# The parts of the page, and the files of specs/ that each has, as CRATE/FILE. A file is in the first part that has it.
+# The parts of the index, and the files that each has, as CRATE/FILE. A file is in the first part that has it.
 PARTS = [
     ("The contract", r"(world_script|script_streams)/.*"),
     ("Output", r"ecs_model/(Output|Print)"),
@@ -26,28 +37,19 @@ PARTS = [
     ("Commands", r".*"),
 ]
 ORDER = ["The contract", "Output", "Lines", "Commands", "Queries", "Rows", "Notifications"]
-SAYS = {
-    "The contract": "What `run` ensures, and what is said of readers, writers and their calls.",
-    "Output": "What each line does and prints: `effect_of` is one line, `output_of` the whole.",
-    "Lines": "How bytes are cut into lines, and which form a line has.",
-    "Commands": "The state of a world, and what each command on it brings, takes, and refuses.",
-    "Queries": "From the text of a query to its terms: tokens, syntax, faults, the checked query.",
-    "Rows": "Which rows a query has in a world, in which order, and how they print.",
-    "Notifications": "Stored queries: the state of a session, who enters and leaves, which facts are observed.",
-}
-
 # Laws by which a relation can be read in place of a function, and that function
 LAWS = {
     "TokensAreSpelled": "tokens_of",
     "PartsAreGrammatical": "parts_of",
     "AddedIsLeast": "added",
     "FactsAfterAdd": "facts_after_add",
+    "ValuesAfterAdd": "facts_after_add",
+    "CopiesHaveValues": "facts_after_add",
     "DeletedIsLeast": "deleted",
     "CycleIsTold": "has_cycle",
     "ReachIsComputed": "reaches",
     "LinesUnfold": "ancestor_line",
     "DepthsAreOfLongestChains": "depth",
-    "FirstReasonIsLeast": "first_reason",
 }
 # what such laws presume, which is no relation to be read
 PREMISES = ("OfLive", "EndsInEnd", "AreLinks", "IsAcyclic", "IsWellFormed", "IsLive")
@@ -55,17 +57,22 @@ PREMISES = ("OfLive", "EndsInEnd", "AreLinks", "IsAcyclic", "IsWellFormed", "IsL
 HEAD = re.compile(r"^(\s*)((?:abbrev |unfoldable |pub |mutual )*)(?:(record|data) (\S+)|(\S+) : |(\S+) :$)")
 USED = re.compile(r"^(?:ghost )?(?:pub )?use ([\w.\-]+?)(?:\.\{(.*)\})?(?: as (\S+?))?;?$")
 TOKEN = re.compile(r"[^\s(){},;\[\]]+")
+MEMBER = re.compile(r"\s*(?:ghost (\w+): |fn (\w+)\()")
+LIBRARY = ("Rattle.std", "Rattle.core", "denote", "lib")
+BLOCK = re.compile(r"^<!-- (\w+)(?:: ([^\n]*))? -->\n(.*?)^<!--end-->$", re.M | re.S)
+LINK = re.compile(r"\[`(\w+)`\]\((\.\./crates/\w+/specs/[\w/]+\.antt)\)")
+MODIFIERS = re.compile(r"^(\s*)(?:(?:abbrev|unfoldable|pub) )+")
 LAW = re.compile(r"pub fn (\w+)\([^)]*\)\s+ensures \{ (\w+) \}\s*\{\s*\}")
 
 Place = collections.namedtuple("Place", "module name")
 
 
 class Definition:
-    """A definition of specs/, or a type of the code that one names."""
+    """A definition of specs/, or a type or a member of a trait of the code. Around it may stand modules whose arguments it takes."""
 
-    def __init__(self, module, name, file, line, comment, text, constructors=()):
+    def __init__(self, module, name, file, line, comment, text, constructors=(), around=()):
         self.place, self.file, self.line, self.comment = Place(module, name), file, line, comment
-        self.text, self.constructors = text, constructors
+        self.text, self.constructors, self.around = text, constructors, around
         self.lines = len([it for it in text if it.strip()])
 
 
@@ -131,30 +138,73 @@ def read_specs(path):
     crate, rest = re.fullmatch(r"crates/(\w+)/specs/(.*)\.antt", path).groups()
     module, lines = Module(f"Rattle.{crate}.specs.{rest.replace('/', '.')}"), lines_of(path)
     read_uses(module, lines)
-    at = 0
+    at, around = 0, []
     while at < len(lines):
+        line, indent = lines[at].strip(), len(lines[at]) - len(lines[at].lstrip())
+        if line.startswith("module "):
+            around = [it for it in around if it[0] < indent] + [(indent, line)]
         found = HEAD.match(lines[at])
-        if not found or lines[at].strip().startswith(("--", "use ", "module ", "pub mod ")):
+        if not found or line.startswith(("--", "use ", "module ", "pub mod ")):
             at += 1
             continue
-        name, end = found[4] or found[5] or found[6], block_end(lines, at, len(found[1]))
+        name, end = found[4] or found[5] or found[6], block_end(lines, at, indent)
         text = lines[at:end]
         built = constructors_of(text) if found[3] == "data" else ()
-        module.definitions[name] = Definition(module.name, name, path, at + 1, comment_above(lines, at), text, built)
+        heads = [head for deep, head in around if deep < indent]
+        module.definitions[name] = Definition(module.name, name, path, at + 1, comment_above(lines, at), text, built, heads)
         at = end
     return module
+
+
+def sources_of(crate):
+    return sorted(os.path.relpath(it, TOP) for it in glob.glob(os.path.join(TOP, "crates", crate, "src", "**", "*.rt"), recursive=True))
 
 
 def read_declared(place):
     """A type of the code: `Rattle.CRATE.specs.declared.MODULE.TYPE` by its name."""
     crate, name = place.module.split(".")[1], place.module.removesuffix(".TheVariants").rsplit(".", 1)[-1]
-    for path in sorted(glob.glob(os.path.join(TOP, "crates", crate, "src", "**", "*.rt"), recursive=True)):
-        path = os.path.relpath(path, TOP)
+    return read_type(crate, name)
+
+
+def read_type(crate, name):
+    for path in sources_of(crate):
         lines = lines_of(path)
         for at, line in enumerate(lines):
             if re.match(rf"\s*pub (?:struct|enum|union) {re.escape(name)}\b", line):
                 end = next((it for it in range(at, len(lines)) if lines[it].startswith("}") or lines[it].endswith(";")), at) + 1
                 return Definition(f"Rattle.{crate}.src", name, path, at + 1, comment_above(lines, at, "///"), lines[at:end])
+    return None
+
+
+def used_types(path):
+    """The names that a file of code uses, each with the crate that it comes from."""
+    own, text = path.split("/")[1], "\n".join(lines_of(path))
+    for found in re.finditer(r"^use (\w+)::([^;]*);", text, re.M):
+        for name in re.findall(r"\b[A-Z]\w*", found[2]):
+            yield name, own if found[1] == "crate" else found[1]
+    for name in re.findall(r"^\s*pub (?:struct|enum|union) (\w+)", text, re.M):
+        yield name, own
+
+
+def read_trait(crate, name):
+    """A trait of the code: what its names stand for, and its members."""
+    for path in sources_of(crate):
+        lines = lines_of(path)
+        start = next((at for at, line in enumerate(lines) if re.match(rf"pub trait {name}\b", line)), None)
+        if start is None:
+            continue
+        module, at, members = Module(f"Rattle.{crate}.src.{name}"), start, []
+        end = lines.index("}", start)
+        read_uses(module, lines[start:end])
+        while at < end:
+            found = MEMBER.match(lines[at])
+            if found:
+                last = next(it for it in range(at, end) if lines[it].endswith(";"))
+                said = comment_above(lines, at, "///") or comment_above(lines, at, "//")
+                members.append(Definition(module.name, f"{name}.{found[1] or found[2]}", path, at + 1, said, lines[at : last + 1]))
+                at = last
+            at += 1
+        return module, members
     return None
 
 
@@ -177,7 +227,8 @@ class Reader:
         if module:
             if place.name in module.definitions:
                 return module.definitions[place.name]
-            return next((it for it in module.definitions.values() if place.name in it.constructors), None)
+            built = next((it for it in module.definitions.values() if place.name in it.constructors), None)
+            return built or (self.target(module.names[place.name]) if place.name in module.names else None)
         if ".specs.declared." in place.module and os.path.isdir(os.path.join(TOP, "crates", place.module.split(".")[1])):
             return self.types.setdefault(place.module.removesuffix(".TheVariants"), read_declared(place))
         return None
@@ -194,42 +245,50 @@ class Reader:
         return module.names.get(first)
 
     def cites(self, module, text):
-        """The places that a text names, in their order."""
-        text = [line.split("--", 1)[0] if line.lstrip().startswith("--") else line for line in text]
-        bound = set(re.findall(r"λ ((?:[^\s.()]+ ?)+)\.", "\n".join(text)))
-        bound = {name for names in bound for name in names.split()} | set(re.findall(r"[({](\w+) :", "\n".join(text)))
-        for line in text:
-            pattern, equals, _ = line.partition(" = ")
-            if equals and not re.search(r"[λ:]", pattern):
-                bound |= {it for it in TOKEN.findall(pattern)[1:] if self.is_variable(module, it)}
-        places = []
-        for token in TOKEN.findall("\n".join(text)):
-            place = self.named(module, token) if token.split(".")[0] not in bound else None
-            if place:
-                places.append(place)
-        symbols = {name: place for name, place in module.names.items() if "◌" in name}
-        tokens = set(TOKEN.findall("\n".join(text)))
-        places += [place for name, place in symbols.items() if name.replace("◌", " ").split()[:1] and name.replace("◌", " ").split()[0] in tokens]
+        """The places that a text names, in their order. A variable with the name of a definition counts as one."""
+        tokens = TOKEN.findall("\n".join(line for line in text if not line.lstrip().startswith(("--", "//"))))
+        places = [place for place in (self.named(module, it) for it in tokens) if place]
+        signs = {name.replace("◌", " ").split()[0]: place for name, place in module.names.items() if "◌" in name}
+        places += [place for sign, place in signs.items() if sign in tokens]
         return list(dict.fromkeys(places))
 
-    def is_variable(self, module, token):
-        """Whether a token of a pattern is a variable: it names no constructor."""
-        place = self.named(module, token)
-        found = self.target(place) if place else None
-        return place is not None and found is not None and place.name in self.modules.get(place.module, Module("")).definitions and not found.text[0].lstrip().startswith(("pub data", "data"))
+    def reach(self, found):
+        """A definition, and all below it."""
+        if found.place in self.reached:
+            return
+        self.reached[found.place] = found
+        if found.place.module in self.modules:
+            self.go_down(self.modules[found.place.module], [*found.text, *found.around])
+        elif found.file.endswith(".rt"):
+            tokens = set(re.findall(r"\w+", "\n".join(line for line in found.text if not line.lstrip().startswith("//"))))
+            types = (read_type(crate, name) for name, crate in used_types(found.file) if name in tokens)
+            for it in types:
+                if it is not None:
+                    self.reach(it)
 
     def go_down(self, module, text):
         for place in self.cites(module, text):
             found = self.target(place)
-            if found is None:
-                if place.module.startswith(("Rattle.std", "Rattle.core", "denote", "lib")):
-                    self.words.setdefault(place, len(self.words))
+            if found is not None:
+                self.reach(found)
+            elif place.module.startswith(LIBRARY):
+                self.words.setdefault(place, len(self.words))
+            else:
+                sys.exit(f"{place.module} has no {place.name}")
+
+    def read_contract(self):
+        """All that the contract says, with the traits that bound the types of `run`."""
+        module, text, _ = contract()
+        self.go_down(module, text)
+        crates = dict(used_types(ROOT_FILE))
+        bounds = re.findall(r"\w+: ([\w +]+)", "\n".join(text).split("(", 1)[0])
+        for name in " ".join(bounds).replace("+", " ").split():
+            if not os.path.isdir(os.path.join(TOP, "crates", crates.get(name, "-"))):
                 continue
-            if found.place in self.reached:
-                continue
-            self.reached[found.place] = found
-            if found.place.module in self.modules:
-                self.go_down(self.modules[found.place.module], found.text)
+            trait, members = read_trait(crates[name], name)
+            for it in members:
+                self.reached[it.place] = it
+                self.go_down(trait, it.text)
 
 
 def contract():
@@ -250,17 +309,11 @@ def part_of(definition):
 
 def said_of(definition):
     """What is said above a definition, or its first line where nothing is."""
-    if definition.comment:
-        return cell(definition.comment)
-    return f"`{cell(re.sub(r'^(abbrev |unfoldable |pub )*', '', definition.text[0].strip()))}`"
+    return definition.comment or MODIFIERS.sub(r"\1", definition.text[0]).strip()
 
 
 def link(definition):
     return f"[`{definition.place.name}`](../{definition.file}#L{definition.line})"
-
-
-def cell(text):
-    return text.replace("|", "\\|")
 
 
 def laws_of(reader):
@@ -286,55 +339,122 @@ def spared(reader, function):
     """The definitions that are reached by a function alone, with itself."""
     other = Reader(reader)
     other.reached[function.place] = function
-    module, text, _ = contract()
-    other.go_down(module, text)
+    other.read_contract()
     return [it for place, it in reader.reached.items() if place not in other.reached or it is function]
 
 
-def rows(head, entries):
-    return [head, "|".join(["", *["---"] * (head.count("|") - 1), ""]), *entries, ""]
+def counts_of(reader):
+    """How many definitions each part has, and how many lines these have."""
+    parts = {part: [it for it in reader.reached.values() if part_of(it) == part] for part in ORDER}
+    return "By part, with their lines: " + ", ".join(f"{part} {len(own)} ({sum(it.lines for it in own)})" for part, own in parts.items())
 
 
-def page_of(reader, start):
+def index_of(reader):
+    """A line for each definition: its part, its name, where it stands, and what it is. And one for each word of the library."""
+    found = sorted(reader.reached.values(), key=lambda it: ORDER.index(part_of(it)))
+    entries = [(part_of(it), it.place.name, f"{it.file}:{it.line}", said_of(it)) for it in found]
+    entries += sorted(("Words", it.name, it.module, "a word of the toolchain's library") for it in reader.words)
+    wide = [max(len(it[at]) for it in entries) for at in range(3)]
+    text = ["# What the contract of world_script::run names, and what that names in turn, from the top down. Made by tools/believe.py."]
+    text += [f"# {counts_of(reader)}.", "# A line has a part, a name, a place, and what it is; BELIEVE.md goes through the main ones."]
+    text += ["  ".join([*(word.ljust(size) for word, size in zip(it, wide)), it[3]]) for it in entries]
+    return "\n".join([*text, ""])
+
+
+def fenced(links, lines):
+    return ["", links, "", "```text", *lines, "```", ""]
+
+
+def bare(definition):
+    """The text of a definition without its comments, without the line of a function's type, and without what says who may use it and how it unfolds."""
+    lines = [line.rstrip() for line in definition.text if line.strip() and not line.lstrip().startswith("--")]
+    indent = len(lines[0]) - len(lines[0].lstrip())
+    has_type = len(lines) > 1 and re.match(rf"\s*{re.escape(definition.place.name)}\b", lines[1])
+    return [MODIFIERS.sub(r"\1", line[indent:]) for line in lines[1 if has_type else 0 :]]
+
+
+def quoted(reader, names):
+    """Definitions as they stand, with links to them."""
+    found = []
+    for name in names.split():
+        file, _, own = name.rpartition(":")
+        end = f"{file}.antt" if file else ""
+        fitting = [it for it in reader.reached.values() if it.place.name == own and it.file.endswith(end)]
+        if len(fitting) != 1:
+            sys.exit(f"{PAGE}: {name} names {len(fitting)} definitions that are reached")
+        found += fitting
+    lines = [line for it in found for line in ["", *bare(it)]][1:]
+    return fenced(",\n".join(map(link, found)) + ":", lines)
+
+
+def quoted_contract(_, names):
+    _, text, start = contract()
+    clauses, wanted = [], names.split()
+    for line in text:
+        found = re.match(r"\s*ensures (\w+)", line)
+        if found:
+            clauses.append((found[1], []))
+        if clauses and line.strip():
+            clauses[-1][1].append(line[4:])
+    if missing := set(wanted).difference(name for name, _ in clauses):
+        sys.exit(f"{PAGE}: {ROOT_FUNCTION} has no clause {missing}")
+    return fenced(f"[`{ROOT_FUNCTION}`](../{ROOT_FILE}#L{start}):", [line for name, own in clauses if name in wanted for line in own])
+
+
+def said_counts(reader, _):
     found = list(reader.reached.values())
     specs = [it for it in found if it.file.endswith(".antt")]
-    text = ["# What one has to believe", ""]
-    text += ["<!-- Made by tools/believe.py from the files of specs/. -->", ""]
-    text += [f"The headline is the contract of [`world_script::run`](../{ROOT_FILE}#L{start}). A proof says that the code meets it; whether it says what one wants is for a reader to judge."]
-    text += [f"It reaches {len(specs)} definitions, {sum(it.lines for it in specs)} lines of the {reader.lines} in `specs/`: the rest serves the proofs, and need not be read. Here they are from the top down, each with the line where it stands and what is said above it."]
-    text += ["", "- **Relations instead of functions**: where a law ties a function to a relation, read the relation ([below](#laws)): so `Grammar` in place of `Machine`.", "- **Words of the standard library**: [below](#words).", "- **What is trusted besides**: [at the end](#trusted).", ""]
-    text += rows("| Part | Definitions | Lines |", [f"| [{part}](#{part.lower().replace(' ', '-')}) | {len(own)} | {sum(it.lines for it in own)} |" for part in ORDER for own in [[it for it in found if part_of(it) == part]]])
-    for part in ORDER:
-        own = [it for it in found if part_of(it) == part]
-        text += [f"## {part}", "", SAYS[part], ""]
-        for file in dict.fromkeys(it.file for it in own):
-            here = [it for it in own if it.file == file]
-            text += [f"**[{file}](../{file})**", ""]
-            text += rows("| Line | Name | What it is |", [f"| {it.line} | {link(it)} | {said_of(it)} |" for it in here])
-    text += ["## Laws", "", "Each of these laws is proved. It says of a function that is reached what relations say, which need no computing: so read them in its place, and leave out the lines that are reached by the function alone.", ""]
-    entries, found_laws = [], [(sum(it.lines for it in left_out), law, function, relations) for law, function, relations, left_out in laws_of(reader)]
-    for left_out, law, function, relations in sorted(found_laws, key=lambda it: -it[0]):
-        by = ", ".join(map(link, relations)) or "the law itself"
-        entries.append(f"| {link(function)} | {left_out} | {by} | {link(law)} | {cell(law.comment)} |")
-    text += rows("| Instead of | Lines | Read | By the law | Which says |", entries)
-    text += ["## Words", "", "The words of the toolchain's library that the definitions use. Their own definitions come with the toolchain: `rt lemma NAME` shows each.", ""]
-    modules = collections.defaultdict(list)
-    for place in reader.words:
-        modules[place.module].append(place.name)
-    text += rows("| From | Words |", [f"| `{name}` | {cell(' '.join(f'`{it}`' for it in sorted(words)))} |" for name, words in sorted(modules.items())])
-    text += TRUSTED
-    return "\n".join(text)
+    members = [it for it in found if "." in it.place.name]
+    types = len(found) - len(specs) - len(members)
+    return [
+        f"{len(specs)} definitions, {sum(it.lines for it in specs)} lines of the {reader.lines} in `specs/`;",
+        f"of the code {types} types and {len(members)} members of traits; {len(reader.words)} words of the toolchain's library.",
+        f"{counts_of(reader)}.",
+    ]
 
 
-TRUSTED = """## Trusted
+def said_laws(reader, _):
+    laws = collections.defaultdict(list)
+    for law, function, relations, left_out in laws_of(reader):
+        laws[function.place].append((sum(it.lines for it in left_out), function, law, relations))
+    text = []
+    for found in sorted(laws.values(), key=lambda it: -it[0][0]):
+        relations = list(dict.fromkeys(link(it) for _, _, _, own in found for it in own))
+        said = [f"- {link(found[0][1])} ({found[0][0]}):", *(f"  {it}," for it in relations)]
+        said += [f"  {'by ' if relations and at == 0 else ''}{link(law)}," for at, (_, _, law, _) in enumerate(found)]
+        text += [*said[:-1], said[-1].removesuffix(",")]
+    return ["", *text, ""]
 
-- The toolchain: its prover, its compilers, its standard library. Programs are run as two compilers make them, and the outputs compared.
-- The ported crates in what their contracts state: `arrayvec`, `bitflags`, `bumpalo`, `clap`, `indexmap`, `itoa`, `memchr`, `slab`, `smallvec`, `thiserror`; and the C library.
-- These definitions, and the text of the contract. That the definitions are what is meant is tested from outside: the worked scripts of `tests/rows` are
-  computed from the definitions by the prover, and run by the program.
-- What the contract says of bytes, it says of readers and writers that tell their bytes, as those in memory do. Files, standard input and standard output tell
-  none: for them the program is tested from outside, and `run` treats all readers and writers alike.
-""".split("\n")
+
+MAKERS = {"quoted": quoted, "contract": quoted_contract, "counts": said_counts, "laws": said_laws}
+
+
+def page_of(reader, page):
+    """The page with its blocks made anew."""
+
+    def made(found):
+        kind, names = found[1], found[2] or ""
+        if kind not in MAKERS:
+            sys.exit(f"{PAGE}: no block is made by the name of {kind}")
+        return "\n".join([f"<!-- {kind}{': ' + names if names else ''} -->", *MAKERS[kind](reader, names), "<!--end-->"])
+
+    return BLOCK.sub(made, page)
+
+
+def read(path):
+    with open(os.path.join(TOP, path), encoding="utf-8") as file:
+        return file.read()
+
+
+def strange_links(reader, page):
+    """The links of a page to files of specs/ that have no definition of the name that is linked."""
+    modules = {}
+    for module in reader.modules.values():
+        for it in module.definitions.values():
+            modules.setdefault(it.file, set()).update((it.place.name, *it.constructors))
+    for found in LINK.finditer(read(page)):
+        if found[1] not in modules.get(found[2].removeprefix("../"), ()):
+            yield f"{page}: {found[2]} has no {found[1]}"
 
 
 def main(words):
@@ -342,19 +462,19 @@ def main(words):
         sys.exit(__doc__)
     sys.setrecursionlimit(10_000)
     reader = Reader()
-    module, text, start = contract()
-    reader.go_down(module, text)
-    page = page_of(reader, start)
+    reader.read_contract()
+    made = {PAGE: page_of(reader, read(PAGE)), INDEX: index_of(reader)}
     if not words:
-        with open(PAGE, "w", encoding="utf-8") as file:
-            file.write(page)
+        for path, text in made.items():
+            with open(os.path.join(TOP, path), "w", encoding="utf-8") as file:
+                file.write(text)
         print(f"{len(reader.reached)} definitions")
         return 0
-    with open(PAGE, encoding="utf-8") as file:
-        if file.read() == page:
-            return 0
-    print("docs/BELIEVE.md isn't what tools/believe.py writes: run that")
-    return 1
+    stale = [path for path, text in made.items() if not os.path.isfile(os.path.join(TOP, path)) or read(path) != text]
+    wrong = [f"{path} isn't what tools/believe.py writes: run that" for path in stale]
+    wrong += [it for page in LINKING for it in strange_links(reader, page)]
+    print("".join(f"{it}\n" for it in wrong), end="")
+    return 1 if wrong else 0
 
 
 if __name__ == "__main__":
