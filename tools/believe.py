@@ -37,6 +37,7 @@ PARTS = [
     ("Commands", r".*"),
 ]
 ORDER = ["The contract", "Output", "Lines", "Commands", "Queries", "Rows", "Notifications"]
+
 # Laws by which a relation can be read in place of a function, and that function
 LAWS = {
     "TokensAreSpelled": "tokens_of",
@@ -330,7 +331,8 @@ def laws_of(reader):
             cited = [reader.target(it) for it in reader.cites(reader.modules[law.place.module], law.text)]
             cited = {it.place.name: it for it in cited if it is not None}
             function = cited.get(LAWS[name])
-            relations = [it for key, it in cited.items() if key[0].isupper() and it.place not in reader.reached and it.file.endswith(".antt") and key not in (name, *PREMISES)]
+            others = [it for key, it in cited.items() if key[0].isupper() and key not in (name, *PREMISES)]
+            relations = [it for it in others if it.place not in reader.reached and it.file.endswith(".antt")]
             if function and function.place in reader.reached:
                 yield law, function, relations, spared(reader, function)
 
@@ -366,7 +368,7 @@ def fenced(links, lines):
 
 
 def bare(definition):
-    """The text of a definition without its comments, without the line of a function's type, and without what says who may use it and how it unfolds."""
+    """The text of a definition without comments, the line of a function's type, and the words on who may use it and how it unfolds."""
     lines = [line.rstrip() for line in definition.text if line.strip() and not line.lstrip().startswith("--")]
     indent = len(lines[0]) - len(lines[0].lstrip())
     has_type = len(lines) > 1 and re.match(rf"\s*{re.escape(definition.place.name)}\b", lines[1])
