@@ -3,36 +3,42 @@ ghost use Rattle.std.specs.Prelude.{◌≡◌, ◌≤◌, length, IfSome};
 ghost use Rattle.script_explain.specs.Places.{IsWithin};
 
 use crate::bytes::len_without_blanks;
-use crate::commands::{Command, command_of};
+use crate::commands::Command;
+use crate::findings::{Advice, finding_of};
 use crate::kinds::sentence_of;
 use crate::misfits::{Misfit, Reason, misfit_of};
-use crate::parts::{Part, text_start, word_from};
+use crate::parts::Part;
 use crate::quotes::{write_marks, write_quote};
 use crate::refusals::Refusal;
+use crate::scripts::Script;
 use std::alloc::{AllocError, Allocator};
 
 /// So many bytes of a line are quoted.
 const MOST_QUOTED: usize = 160;
 
-/// Writes what is wrong with a refused line: where it stands and its kind, the line with marks under what is wrong, and
-/// a sentence.
+/// Writes what is wrong with a refused line of a script: where it stands and its kind, the line with marks under what
+/// is wrong, a sentence, and advice.
 pub(crate) fn write_explanation<A: Allocator>(
     file: &str,
     refusal: &Refusal,
-    line: Option<&[u8]>,
+    script: &Script<A>,
     out: &mut Vec<u8, A>,
 ) -> Result<(), AllocError> {
     write_parts(out, &[file, ":", refusal.number, ": ", refusal.kind, "\n"])?;
-    let Some(line) = line else {
-        return write_sentence(refusal.kind, out);
+    let Some(line) = script.refused_line() else {
+        write_sentence(refusal.kind, out)?;
+        return write_parts(out, &["\n"]);
     };
     if refusal.kind == "BadLine" {
         let misfit = misfit_of(line);
         write_quoted(line, Some(misfit.part), out)?;
         return write_misfit(line, &misfit, out);
     }
-    write_quoted(line, marked_part(line, refusal.span), out)?;
-    write_sentence(refusal.kind, out)
+    let finding = finding_of(script, line, refusal);
+    write_quoted(line, finding.part, out)?;
+    write_sentence(refusal.kind, out)?;
+    write_advice(finding.advice, out)?;
+    write_parts(out, &["\n"])
 }
 
 /// Writes texts one after the other.
@@ -46,23 +52,39 @@ fn write_parts<A: Allocator>(out: &mut Vec<u8, A>, parts: &[&str]) -> Result<(),
 /// Writes the sentence of a kind.
 fn write_sentence<A: Allocator>(kind: &str, out: &mut Vec<u8, A>) -> Result<(), AllocError> {
     match sentence_of(kind) {
-        Some(sentence) => write_parts(out, &["  ", sentence, "\n"]),
+        Some(sentence) => write_parts(out, &["  ", sentence]),
         None => Ok(()),
     }
 }
 
-/// The part of a line that a span of its query's text is.
-fn marked_part(line: &[u8], span: Option<(usize, usize)>) -> Option<Part>
-    ensures { IfSome result (IsWithin line.now) }
-{
-    let (start, end) = span?;
-    let word = word_from(line, 0);
-    let words = command_of(word.of(line)).map_or(1, Command::words_before_text);
-    let text = text_start(line, words);
-    let room = line.len() - text;
-    let start = text + start.min(room);
-    let end = (text + end.min(room)).max(start);
-    Some(Part { start, end })
+/// Writes advice after a sentence.
+fn write_advice<A: Allocator>(advice: Advice<'_>, out: &mut Vec<u8, A>) -> Result<(), AllocError> {
+    match advice {
+        Advice::Nothing => Ok(()),
+        Advice::Sentence(sentence) => write_parts(out, &[" ", sentence]),
+        Advice::Range(range) => write_parts(out, &[" ", range.text, "."]),
+        Advice::Name(name) => {
+            write_parts(out, &[" Did you mean `"])?;
+            write_quote(true, name, out)?;
+            write_parts(out, &["`?"])
+        }
+        Advice::QueryName(command) => write_parts(
+            out,
+            &[
+                " The query's name is missing: the form is `",
+                command.form(),
+                "`.",
+            ],
+        ),
+        Advice::QueryText(command) => write_parts(
+            out,
+            &[
+                " The query's name or its text is missing: the form is `",
+                command.form(),
+                "`.",
+            ],
+        ),
+    }
 }
 
 /// Writes a line and the marks under a part of it. Of a long line its first bytes are quoted, up to the part at least.
@@ -164,6 +186,7 @@ fn reason_text(reason: Reason) -> &'static str {
         Reason::Field => "is no field: that is FIELD:KIND, as `x:i32`; the form is ",
         Reason::Kind =>
             "is no field: KIND is i8, u8, i16, u16, i32, u32, i64 or u64, and there are no floats; the form is ",
+        Reason::Comma => "has a comma, and spaces separate fields and values; the form is ",
         Reason::Event => "is no event: that is add, remove or set; the form is ",
         Reason::Unclear => "The line fits none of the forms that `flecsq --help` lists.",
     }

@@ -8,11 +8,16 @@
 mod bytes;
 mod commands;
 mod explanations;
+mod findings;
+mod hints;
 mod kinds;
 pub mod laws;
 mod misfits;
+mod names;
+mod nearness;
 mod parts;
 mod quotes;
+mod ranges;
 mod refusals;
 mod scripts;
 mod watching;

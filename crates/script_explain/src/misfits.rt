@@ -5,6 +5,7 @@ ghost use Rattle.script_explain.specs.Places.{IsWithin};
 use crate::bytes::{is_blank, is_number, len_without_blanks, place_of};
 use crate::commands::{Command, command_of, nearest};
 use crate::parts::{Part, word_from};
+use crate::ranges::range_of;
 
 /// Why a part of a line doesn't fit.
 #[derive(Clone, Copy)]
@@ -28,6 +29,8 @@ pub(crate) enum Reason {
     Fraction,
     Field,
     Kind,
+    /// A field or a value with a comma.
+    Comma,
     Event,
     /// Nothing was found.
     Unclear,
@@ -299,6 +302,9 @@ fn value_fault(word: &[u8]) -> Option<Reason> {
     if begins_comment(word) {
         return Some(Reason::Comment);
     }
+    if place_of(digits, b',').is_some() {
+        return Some(Reason::Comma);
+    }
     match place_of(digits, b'.') {
         Some(dot) if is_number(&digits[..dot], usize::MAX) => Some(Reason::Fraction),
         _ => Some(Reason::Value),
@@ -309,16 +315,11 @@ fn value_fault(word: &[u8]) -> Option<Reason> {
 fn field_fault(word: &[u8]) -> Option<Reason> {
     match place_of(word, b':') {
         None if begins_comment(word) => Some(Reason::Comment),
+        _ if place_of(word, b',').is_some() => Some(Reason::Comma),
         None => Some(Reason::Field),
-        Some(colon) if is_kind(&word[colon + 1..]) => None,
+        Some(colon) if range_of(&word[colon + 1..]).is_some() => None,
         Some(_) => Some(Reason::Kind),
     }
-}
-
-/// Whether a word is a kind of field.
-fn is_kind(word: &[u8]) -> bool {
-    let kinds: [&[u8]; 8] = [b"i8", b"u8", b"i16", b"u16", b"i32", b"u32", b"i64", b"u64"];
-    kinds.iter().any(|kind| *kind == word)
 }
 
 /// The next word as an event that is observed.

@@ -13,11 +13,29 @@ pub(crate) struct Part {
 }
 
 impl Part {
+    /// Of no bytes.
+    pub(crate) const EMPTY: Part = Part { start: 0, end: 0 };
+
     /// Its bytes.
     pub(crate) fn of(self, line: &[u8]) -> &[u8]
         requires { IsWithin line.now self }
     {
         &line[self.start..self.end]
+    }
+
+    /// Its bytes; none where it isn't within the line.
+    pub(crate) fn bytes_in(self, line: &[u8]) -> &[u8] {
+        line.get(self.start..self.end).unwrap_or(&[])
+    }
+
+    /// What of it is within the line.
+    pub(crate) fn clamped(self, line: &[u8]) -> Part
+        ensures within { IsWithin line.now result }
+        ensures same { IsWithin line.now self → result ≡ self }
+    {
+        let end = self.end.min(line.len());
+        let start = self.start.min(end);
+        Part { start, end }
     }
 }
 

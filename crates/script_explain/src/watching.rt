@@ -137,13 +137,9 @@ impl<E: Sink, A: Allocator> Explainer<'_, E, A> {
         let Ok(mut script) = self.script.try_borrow_mut() else {
             return Ok(());
         };
+        script.go_to(refusal.line);
         self.text.clear();
-        write_explanation(
-            self.file,
-            &refusal,
-            script.line(refusal.line),
-            &mut self.text,
-        )?;
+        write_explanation(self.file, &refusal, &script, &mut self.text)?;
         let _ = write_all(&mut self.errors, self.text.as_slice());
         Ok(())
     }
