@@ -154,6 +154,8 @@ def each_kind_of_refusal_is_explained(program, room):
         number = explained.line_of(case)
         if head != f"(standard input):{number}: {case.kind}" or marks != [case.marks] * bool(case.marks) or line != case.quote:
             raise ValueError(f"{kind}: {head} / {line} / {marks}")
+        if case.is_all and sentence != f"  {case.word}":
+            raise ValueError(f"{kind}: {sentence}")
         if case.word not in sentence or (case.kind != "BadLine" and sentences.setdefault(sentence, case.kind) != case.kind):
             raise ValueError(f"{kind}: {sentence}")
     return len(sentences) >= 30
@@ -178,8 +180,39 @@ def explain_survives_a_closed_standard_error(program, room):
     return answers(ran, 1, b"error 1 BadLine\n")
 
 
+def read_faults_are_explained(program, room):
+    """A second line names the file and, where the system gives one, the reason."""
+    none, closed = os.path.join(room, "none"), ["sh", "-c", 'exec "$0" --explain <&-', program]
+    with open(os.path.join(room, "whole"), "wb") as file:
+        file.write(SCRIPT)
+    cases = [
+        (run_words(program, ["--explain", none]), f"{none}: No such file or directory"),
+        (run_words(program, ["--explain", room]), f"{room}: Is a directory"),
+        (run_words(program, ["--explain", os.path.join(file.name, "below")]), f"{file.name}/below: Not a directory"),
+        (subprocess.run(closed, stdout=subprocess.PIPE, stderr=subprocess.PIPE, timeout=60, check=False), "(standard input): Bad file descriptor"),
+    ]
+    return all(answers(ran, 3, b"", f"flecsq: read fault\nflecsq: {why}\n".encode()) for ran, why in cases)
+
+
+def explained_lines_take_time_in_proportion(program, room):
+    """100,000 lines with unknown names after 2,048 names, of which none is near, are explained within ten seconds; 25,000 take a quarter of that, or little more."""
+    names = "".join(f"entity Planet{number}\ncomponent Weight{number} kg:u8\n" for number in range(1024))
+    times = []
+    for count in (25_000, 100_000):
+        begun = processor_seconds()
+        ran = run_words(program, ["--explain"], (names + "show Planetoids\n" * count).encode(), 100)
+        times.append(processor_seconds() - begun)
+        if not answers(ran, 1) or ran.stderr.count(b"\n") != 4 * count:
+            return False
+    return times[1] < 10 and times[1] < 6 * times[0]
+
+
 def version_is_told(program, room):
-    return answers(run_words(program, ["--version"]), 0, b"flecsq 0.1.0\n", b"")
+    """Which build it is; where the variable FLECSQ_BUILD says which one is tested, that one."""
+    told = {"proved": b"flecsq 0.1.0 (proved)\n", "unproved": b"flecsq 0.1.0 (not proved)\n"}
+    build = os.environ.get("FLECSQ_BUILD")
+    ran = run_words(program, ["--version"])
+    return answers(ran, 0, complaint=b"") and ran.stdout in ([told[build]] if build in told else told.values())
 
 
 def closed_output_is_a_write_fault(program, room):
@@ -414,6 +447,8 @@ CASES = [
     each_kind_of_refusal_is_explained,
     explain_answers_line_by_line,
     explain_survives_a_closed_standard_error,
+    read_faults_are_explained,
+    explained_lines_take_time_in_proportion,
     version_is_told,
     closed_output_is_a_write_fault,
     no_output_at_all_is_a_write_fault,

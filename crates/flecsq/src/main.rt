@@ -5,13 +5,16 @@ use clap::error::ErrorKind;
 use clap::{Arg, ArgAction, Command, Error};
 use script_explain::{Explaining, Script, Watched};
 use std::alloc::{AllocError, Global};
-use std::cell::RefCell;
+use std::cell::{Cell, RefCell};
 use std::env;
 use std::fs::File;
 use std::hash::RandomState;
 use std::io::{self, Read, Stderr};
 use std::process::ExitCode;
 use world_script::{FromRead, RunError, Summary, ToWrite, run_without_cleanup};
+
+/// A build without proofs says `(not proved)`: `tools/unproved.py` changes this line in its copy.
+const VERSION: &str = "0.1.0 (proved)";
 
 const ABOUT: &str = "Runs a script of commands and queries, and prints rows, events and refusals.";
 
@@ -65,6 +68,8 @@ The reference of all this is docs/LANGUAGE.md in flecsq's repository.";
 #[derive(Clone, Copy)]
 enum Fault {
     Read,
+    /// The system gave no random keys.
+    Keys,
     Write,
     Memory,
     TooLong,
@@ -73,7 +78,7 @@ enum Fault {
 impl Fault {
     fn text(&self) -> &'static str {
         match *self {
-            Fault::Read => "flecsq: read fault",
+            Fault::Read | Fault::Keys => "flecsq: read fault",
             Fault::Write => "flecsq: write fault",
             Fault::Memory => "flecsq: out of memory",
             Fault::TooLong => "flecsq: script too long",
@@ -101,9 +106,9 @@ fn command<'a>(alloc: Global) -> Result<Command<'a>, AllocError> {
     let explain = Arg::new(alloc, "explain")
         .long("explain")
         .action(ArgAction::SetTrue)
-        .help("Also explains each refused line on standard error");
+        .help("Also explains refused lines and read faults on standard error");
     Command::new(alloc, "flecsq")
-        .version("0.1.0")
+        .version(VERSION)
         .about(ABOUT)
         .override_usage(USAGE)
         .after_help(SCRIPTS)
@@ -111,9 +116,28 @@ fn command<'a>(alloc: Global) -> Result<Command<'a>, AllocError> {
         .arg(explain)
 }
 
+/// A reader that remembers why its last read that failed did so.
+#[derive(Drop)]
+struct Remembering<'a, R> {
+    reader: R,
+    reason: &'a Cell<Option<io::Error>>,
+}
+
+impl<R: Read> Read for Remembering<'_, R> {
+    ghost remaining = { λ r. R.remaining r.reader };
+
+    fn read(&mut self, buffer: &mut [u8]) -> io::Result<usize> {
+        let answer = self.reader.read(buffer);
+        if let Err(error) = answer {
+            self.reason.set(Some(error));
+        }
+        answer
+    }
+}
+
 /// Runs what the reader gives. `run_without_cleanup` reads and writes in pieces, so nothing else is buffered.
 fn run_reader<R: Read + Drop>(rt: &HostRuntime, reader: R) -> Result<Summary, Fault> {
-    let random = RandomState::new(rt).map_err(|_| Fault::Read)?;
+    let random = RandomState::new(rt).map_err(|_| Fault::Keys)?;
     let mut reader = FromRead::new(reader);
     let output = ToWrite::new(io::writer(rt));
     // The same type of writer as where refusals are explained: what is generic over it stands once in the program.
@@ -127,9 +151,11 @@ fn run_explained<R: Read + Drop>(
     rt: &HostRuntime,
     reader: R,
     file: &str,
+    reason: &Cell<Option<io::Error>>,
 ) -> Result<Summary, Fault> {
-    let random = RandomState::new(rt).map_err(|_| Fault::Read)?;
+    let random = RandomState::new(rt).map_err(|_| Fault::Keys)?;
     let script = RefCell::new(Script::new(rt.alloc()));
+    let reader = Remembering { reader, reason };
     let mut reader = Watched::new(FromRead::new(reader), &script);
     let output = ToWrite::new(io::writer(rt));
     let errors = ToWrite::new(rt.stderr());
@@ -146,12 +172,53 @@ fn run_script(rt: &HostRuntime, file: Option<&str>) -> Result<Summary, Fault> {
     }
 }
 
-/// The same, and explains the refused lines.
-fn explain_script(rt: &HostRuntime, file: Option<&str>) -> Result<Summary, Fault> {
-    match file {
-        Some(path) => run_explained(rt, File::open(rt, path).map_err(|_| Fault::Read)?, path),
-        None => run_explained(rt, rt.stdin(), "(standard input)"),
+/// The same, and explains the refused lines, and a fault of reading.
+fn explain_script(rt: &HostRuntime, file: Option<&str>) -> Result<Summary, ExitCode> {
+    let reason = Cell::new(None);
+    let name = file.unwrap_or("(standard input)");
+    let ended = match file {
+        Some(path) => open_explained(rt, path, &reason),
+        None => run_explained(rt, rt.stdin(), name, &reason),
+    };
+    ended.map_err(|fault| {
+        let status = print_fault(rt, &fault);
+        print_reason(rt, fault, name, reason.get());
+        status
+    })
+}
+
+fn open_explained(
+    rt: &HostRuntime,
+    path: &str,
+    reason: &Cell<Option<io::Error>>,
+) -> Result<Summary, Fault> {
+    match File::open(rt, path) {
+        Ok(file) => run_explained(rt, file, path, reason),
+        Err(error) => {
+            reason.set(Some(error));
+            Err(Fault::Read)
+        }
     }
+}
+
+/// Says after a fault of reading what could not be read, and why, where that is known.
+fn print_reason(rt: &HostRuntime, fault: Fault, file: &str, reason: Option<io::Error>) {
+    let _ = match (fault, reason) {
+        (Fault::Read, Some(error)) => print_error(rt, file, &error),
+        (Fault::Read, None) => eprintln!(rt; "flecsq: {file}: reading failed"),
+        (Fault::Keys, _) => eprintln!(rt; "flecsq: the system gives no random keys"),
+        _ => Ok(()),
+    };
+}
+
+/// Prints the system's words for an error, without its number.
+fn print_error(rt: &HostRuntime, file: &str, error: &io::Error) -> io::Result<()> {
+    let words = format!(in rt.alloc(); "{error}")?;
+    let words = words.as_str();
+    let reason = words
+        .split_once(" (os error")
+        .map_or(words, |(reason, _)| reason);
+    eprintln!(rt; "flecsq: {file}: {reason}")
 }
 
 /// Prints help, the version, or what is wrong with the arguments.
@@ -192,12 +259,11 @@ fn run_words(rt: &HostRuntime, words: &[String]) -> Result<ExitCode, ExitCode> {
         .try_get_matches_from(words)
         .map_err(|error| print_usage(rt, &error))?;
     let file = matches.get_str("FILE");
-    let ended = if matches.get_flag("explain") {
-        explain_script(rt, file)
+    let summary = if matches.get_flag("explain") {
+        explain_script(rt, file)?
     } else {
-        run_script(rt, file)
+        run_script(rt, file).map_err(|fault| print_fault(rt, &fault))?
     };
-    let summary = ended.map_err(|fault| print_fault(rt, &fault))?;
     Ok(ExitCode::from(if summary.refused == 0 { 0 } else { 1 }))
 }
 
