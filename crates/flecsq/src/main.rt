@@ -137,7 +137,7 @@ impl<R: Read> Read for Remembering<'_, R> {
 
 /// Runs what the reader gives. `run_without_cleanup` reads and writes in pieces, so nothing else is buffered.
 fn run_reader<R: Read + Drop>(rt: &HostRuntime, reader: R) -> Result<Summary, Fault> {
-    let random = RandomState::new(rt).map_err(|_| Fault::Keys)?;
+    let random = RandomState::new(rt).map_err(|_| Fault::Read)?;
     let mut reader = FromRead::new(reader);
     let output = ToWrite::new(io::writer(rt));
     // The same type of writer as where refusals are explained: what is generic over it stands once in the program.
