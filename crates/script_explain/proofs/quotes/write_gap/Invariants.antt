@@ -1,5 +1,5 @@
-use Rattle.std.proofs.Common.{◌≡◌, ◌++◌, flat_map, map, take}
-use Rattle.script_explain.specs.Places.{gap, mark, shown}
+use Rattle.std.proofs.Common.{◌≡◌, ◌++◌, flat_map, take}
+use Rattle.script_explain.specs.Places.{gap}
 use Rattle.script_explain.proofs.quotes.write_gap.Given as goal
 
 abbrev pub invariant-loop-byte : goal.invariant-loop-byte
