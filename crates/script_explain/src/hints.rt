@@ -68,7 +68,7 @@ const OF_CHARACTERS: [Hint; 11] = [
     Hint {
         before: "",
         at: At::Token(".", ""),
-        sentence: "After a variable stands no dot: a child is another variable, as `ChildOf($child,$this)`.",
+        sentence: "A dot stands within a name alone: a variable's child is a variable, as `ChildOf($child,$this)`.",
     },
     Hint {
         before: "",
@@ -77,7 +77,7 @@ const OF_CHARACTERS: [Hint; 11] = [
     },
     Hint {
         before: "",
-        at: At::Token("/", ""),
+        at: At::Token("/", "/"),
         sentence: "A comment is a line of its own, which begins with `//`.",
     },
 ];
