@@ -6,15 +6,21 @@ BENCHMARK := crates/bench_library/out/bench_library
 SOURCES := crates.txt $(shell find crates -name out -prune -o -path '*/must-fail/*' -prune -o -type f \( -name '*.rt' -o -name '*.antt' \) -print)
 BUILD := python3 tools/build.py
 
-.PHONY: help run proved install test edits bench check clean
+.PHONY: help run build proved install test gate demo edits bench check clean
 
 .DEFAULT_GOAL := help
 
+# (what is built and written stands under out/ alone)
+export PYTHONDONTWRITEBYTECODE := 1
+
 help:
-	@echo "make run [SCRIPT=FILE]       Runs a script. Without a proved program it builds one without proofs"
+	@echo "make run [SCRIPT=FILE]       Runs a script. Without a proved program it builds one without proofs, in some minutes, once"
+	@echo "make build                   Builds that program, and tells where it stands"
+	@echo "make test                    All tests that need no proof, in minutes"
+	@echo "make demo                    Proves a small crate, makes a wrong change to a copy, and shows that and why it is refused"
 	@echo "make proved                  Proves and builds the program, in half an hour or more"
-	@echo "make install [PREFIX=FOLDER] Installs the proved program and its man page under FOLDER, ~/.local if left out"
-	@echo "make test                    The whole gate, then the script rows and the program from outside"
+	@echo "make install [PREFIX=FOLDER] Installs the proved program and its man page under FOLDER, ~/.local if left out; UNPROVED=1 for the other"
+	@echo "make gate                    Every proof from nothing, in an hour and a half or more, then all tests against the proved program"
 	@echo "make check                   Proves every crate, over what earlier runs kept"
 	@echo "make edits [SINCE=COMMIT]    Edits that the check must refuse, and why it refuses each; also CRATES=\"..\", TIER=.."
 	@echo "make bench [WORKLOADS=\"..\"]  Workloads through the program, and the benchmarks"
@@ -24,15 +30,26 @@ help:
 run:
 	@$(BUILD) run "$(SCRIPT)"
 
+build:
+	@$(BUILD) build
+
 proved:
 	@$(BUILD) proved
 
 install:
 	@$(BUILD) install "$(DESTDIR)$(PREFIX)"
 
-# The gate (every proof from nothing, the must-fail edits, the tests), then the script rows and the program from outside.
+# All tests that need no proof, against the proved program where it is up to date, else against one that is built without proofs.
 test:
-	@python3 tests/run.py
+	@python3 tests/run.py test
+
+# Every proof from nothing, the tests of crates, the named wrong bodies; then the same tests against the proved program.
+gate:
+	@python3 tests/run.py gate
+
+demo:
+	@$(BUILD) need
+	@python3 tools/demo.py
 
 # Edits that the check must refuse, and why it refuses each. Of the crates that changed since the commit SINCE; or of CRATES="..", or
 # CRATES=all. TIER is edits (those of edits/CRATE.edits), must-fail (the named wrong bodies, which the gate tries too) or both. NAMES=".." are

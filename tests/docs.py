@@ -106,7 +106,6 @@ def run(program):
             failed += 1
         else:
             passed += 1
-    print(f"scripts of pages and examples, code of READMEs: {passed} right, {failed} wrong")
     return passed, failed
 
 

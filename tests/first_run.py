@@ -1,12 +1,13 @@
 #!/usr/bin/env python3
 """first_run.py: what is said where the toolchain isn't there, or is another one than this was proved with: one sentence, and no traceback."""
 import os
+import shutil
 import subprocess
 import sys
 import tempfile
 
 TOP = os.path.realpath(os.path.join(os.path.dirname(os.path.realpath(__file__)), ".."))
-BUILD, GATE = os.path.join(TOP, "tools", "build.py"), os.path.join(TOP, "tests", "run.py")
+BUILD, TESTS = os.path.join(TOP, "tools", "build.py"), os.path.join(TOP, "tests", "run.py")
 
 
 def said(path, *words):
@@ -22,7 +23,7 @@ def is_sentence(answer, *words):
 
 
 def no_toolchain_is_told(room):
-    return all(is_sentence(said(room, *words), "command rt", "on the PATH") for words in ((BUILD, "need"), (GATE,)))
+    return all(is_sentence(said(room, *words), "command rt", "on the PATH") for words in ((BUILD, "need"), (TESTS, "test"), (TESTS, "gate")))
 
 
 def another_kit_is_told(room):
@@ -35,10 +36,25 @@ def another_kit_is_told(room):
 
 def the_targets_are_listed(room):
     ran = subprocess.run(["make", "-C", TOP, "--no-print-directory", "help"], stdout=subprocess.PIPE, text=True, timeout=60, check=True)
-    return all(f"make {target} " in ran.stdout for target in ("run", "proved", "install", "test", "check", "edits", "bench", "clean"))
+    return all(f"make {target} " in ran.stdout for target in ("run", "build", "test", "demo", "proved", "install", "gate", "check", "edits", "bench", "clean"))
 
 
-CASES = [no_toolchain_is_told, another_kit_is_told, the_targets_are_listed]
+def unknown_words_are_refused(room):
+    """No word but `gate` begins a gate."""
+    answers = [said(os.environ["PATH"], *words) for words in ((TESTS,), (TESTS, "--no-gate"), (TESTS, "tests"), (BUILD,), (BUILD, "--fast"))]
+    helped = [said(os.environ["PATH"], program, "--help") for program in (TESTS, BUILD)]
+    return all(it[0] == 2 and not it[1] and it[2] for it in answers) and all(it[0] == 0 and it[1] and not it[2] for it in helped)
+
+
+def nothing_unproved_is_installed(room):
+    """Without a proved program `install` installs nothing, and says how to get one. (On a copy of the tool, which has no program.)"""
+    os.makedirs(os.path.join(room, "tools"))
+    tool, place = shutil.copy(BUILD, os.path.join(room, "tools")), os.path.join(room, "there")
+    status, output, complaint = said(os.environ["PATH"], tool, "install", place)
+    return status == 2 and not output and "make proved" in complaint and "UNPROVED=1" in complaint and not os.path.exists(place)
+
+
+CASES = [no_toolchain_is_told, another_kit_is_told, the_targets_are_listed, unknown_words_are_refused, nothing_unproved_is_installed]
 
 
 def run():
@@ -49,7 +65,6 @@ def run():
             if not case(room):
                 print(f"first run {case.__name__} FAILED")
                 failed += 1
-    print(f"first run: {len(CASES) - failed} right, {failed} wrong")
     return len(CASES) - failed, failed
 
 

@@ -182,7 +182,6 @@ def run(program=None):
             if not case(program, room):
                 print(f"picture {case.__name__} FAILED")
                 failed += 1
-    print(f"picture: {len(cases) - failed} right, {failed} wrong")
     return len(cases) - failed, failed
 
 

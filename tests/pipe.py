@@ -207,7 +207,6 @@ def run(program):
         if complaint:
             print(f"client over a pipe: {case.__name__} {complaint}")
             failed += 1
-    print(f"client over a pipe: {len(CASES) - failed} right, {failed} wrong")
     return len(CASES) - failed, failed
 
 

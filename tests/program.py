@@ -489,7 +489,6 @@ def run(program):
             if not passes(case, program, room):
                 print(f"program {case.__name__} FAILED")
                 failed += 1
-    print(f"program: {len(CASES) - failed} right, {failed} wrong")
     return len(CASES) - failed, failed
 
 

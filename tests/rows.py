@@ -59,7 +59,6 @@ def run(program, only=()):
             failed += 1
         else:
             passed += 1
-    print(f"rows: {passed} right, {failed} wrong")
     return passed, failed
 
 

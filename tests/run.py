@@ -1,21 +1,25 @@
 #!/usr/bin/env python3
-"""run.py [--no-gate]: the gate, then the script rows and the program from outside, with one count over all of them.
+"""run.py test: all tests that need no proof, against the proved program where it is up to date, else against one that is built without proofs.
+run.py gate: the gate, then the same tests against the program that it proved.
 
-The gate is not begun where a source file is not laid out: it would refuse that file's crate after its proof, and with it all above. Without
-the gate, the rows and the program's own tests run against the program that was built last. After the gate, where its minutes went stands before
-the last line.
+Each ends with its count. The gate is not begun where a source file is not laid out: it would refuse that file's crate after its proof, and with it
+all above. After the gate, where its minutes went stands before the last line.
 """
+import argparse
 import os
 import re
 import subprocess
 import sys
+import time
 
 import docs
 import first_run
 import layout
 import minutes
 import orders
+import pages
 import picture
+import pipe
 import program
 import rows
 
@@ -24,7 +28,6 @@ sys.path.append(os.path.join(TOP, "tools"))
 
 import build
 
-PROGRAM = os.path.join(TOP, "crates", "flecsq", "out", "flecsq")
 COUNTS = re.compile(r"(\d+) passed, (\d+) failed")
 
 # What the dearest check takes, with some to spare, in KB.
@@ -67,26 +70,42 @@ def run_gate(spent):
     return passed, failed or int(gate.returncode != 0)
 
 
-def check_worked_rows():
-    """Whether the worked rows that the prover computes are those that the program is tested with."""
-    ran = subprocess.run([sys.executable, os.path.join(TOP, "tools", "worked_rows.py"), "--check"], cwd=TOP, check=False)
-    print(f"worked rows: {'those of tests/rows' if ran.returncode == 0 else 'NOT those of tests/rows'}", flush=True)
-    return (1, 0) if ran.returncode == 0 else (0, 1)
+def succeeds(*words):
+    """One test: whether a tool ends with status 0. What it says is shown where it doesn't."""
+    ran = subprocess.run([sys.executable, *words], cwd=TOP, stdout=subprocess.PIPE, stderr=subprocess.STDOUT, text=True, check=False)
+    if ran.returncode:
+        print(ran.stdout, end="")
+    return (0, 1) if ran.returncode else (1, 0)
 
 
-def check_belief():
-    """Whether docs/BELIEVE.md is what the definitions make it."""
-    ran = subprocess.run([sys.executable, os.path.join(TOP, "tools", "believe.py"), "--check"], cwd=TOP, check=False)
-    return (1, 0) if ran.returncode == 0 else (0, 1)
+def tests_of(built):
+    """The parts of the tests, each with what runs it. Those that need the program come last, and get it."""
+    return [
+        ("layout of the sources", lambda: (0, 1) if layout.main() else (1, 0)),
+        ("pages", pages.run),
+        ("definitions listed", lambda: succeeds("tools/believe.py", "--check")),
+        ("worked rows", lambda: succeeds("tools/worked_rows.py", "--check")),
+        ("texts of edits", lambda: succeeds("tools/edits.py", "--crates", "all", "--tier", "both", "--check-texts")),
+        ("first run", first_run.run),
+        ("picture", lambda: picture.run(built)),
+        ("rows", lambda: rows.run(built)),
+        ("scripts of pages", lambda: docs.run(built)),
+        ("program from outside", lambda: program.run(built)),
+        ("client over the pipe", lambda: pipe.run(built)),
+        ("queries made at random", lambda: orders.run(built)),
+    ]
 
 
-def run_program():
-    """Runs the rows, the scripts of the pages, and the program from outside."""
-    if not os.path.isfile(PROGRAM):
-        print("there is no program to run the rows against")
-        return 0, 1
-    counts = [suite.run(PROGRAM) for suite in (rows, docs, program, orders)]
-    return sum(passed for passed, _ in counts), sum(failed for _, failed in counts)
+def run_tests(built):
+    """Runs all tests against a program, tells how long each part took, and returns how much passed and failed."""
+    os.environ["FLECSQ_BUILD"] = "proved" if built == build.PROVED else "unproved"
+    counts = []
+    for name, run in tests_of(built):
+        begun = time.monotonic()
+        passed, failed = run()
+        counts.append((passed, failed))
+        print(f"{name}: {passed} right, {failed} wrong, {time.monotonic() - begun:.1f} s", flush=True)
+    return [sum(it) for it in zip(*counts)]
 
 
 def tell_minutes(spent):
@@ -97,18 +116,38 @@ def tell_minutes(spent):
         print(f"minutes: {error!r}")
 
 
-def main():
-    has_gate = "--no-gate" not in sys.argv[1:]
-    if has_gate and not build.has_toolchain():
-        return 2
-    if has_gate and layout.main():
-        return 1
+def test():
+    built = build.program()
+    build.tell_where(built)
+    return run_tests(built)
+
+
+def gate():
+    if layout.main():
+        return 0, 1
     spent = minutes.Minutes()
-    counts = [run_gate(spent)] if has_gate else []
-    counts += [check_worked_rows(), check_belief(), picture.run(), first_run.run(), run_program()]
-    passed, failed = (sum(it) for it in zip(*counts))
-    if has_gate:
-        tell_minutes(spent)
+    passed, failed = run_gate(spent)
+    if os.path.isfile(build.PROVED):
+        right, wrong = run_tests(build.PROVED)
+        passed, failed = passed + right, failed + wrong
+    else:
+        print("there is no program to test")
+        failed += 1
+    tell_minutes(spent)
+    return passed, failed
+
+
+def main():
+    parser = argparse.ArgumentParser(description=__doc__, formatter_class=argparse.RawDescriptionHelpFormatter)
+    parser.add_argument("part", choices=("test", "gate"))
+    part = parser.parse_args().part
+    if not build.has_toolchain():
+        return 2
+    try:
+        passed, failed = {"test": test, "gate": gate}[part]()
+    except build.Missing as missing:
+        print(missing, file=sys.stderr)
+        return 2
     print(f"{passed} passed, {failed} failed")
     return 1 if failed or not passed else 0
 

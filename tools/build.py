@@ -2,8 +2,10 @@
 """build.py COMMAND: builds the program, proved or not, and runs it. The Makefile calls it.
 
 run SCRIPT      runs a script: with the proved program where it stands and is up to date, else with one that is built without proofs
+build           builds the program without proofs where no proved one is up to date, and tells where the program stands
 proved          proves and builds the program, and tells of each step
-install FOLDER  puts the proved program and its man page under FOLDER/bin and FOLDER/share/man/man1
+install FOLDER  puts the proved program and its man page under FOLDER/bin and FOLDER/share/man/man1. With UNPROVED=1 in the environment it may be
+                the other program
 need            says in one sentence what is missing, and answers status 2; does nothing where all is there
 """
 import os
@@ -12,18 +14,19 @@ import re
 import shutil
 import subprocess
 import sys
+import threading
 import time
 
 TOP = os.path.realpath(os.path.join(os.path.dirname(os.path.realpath(__file__)), ".."))
 PROVED = os.path.join(TOP, "crates", "flecsq", "out", "flecsq")
-UNPROVED = os.path.join(TOP, "out", "try", "flecsq")
+UNPROVED = os.path.join(TOP, "out", "flecsq")
 MAN_PAGE = os.path.join(TOP, "docs", "flecsq.1")
 
 # what the proofs and the program were last proved and built with, as `rt version` tells it
-KIT = "rattle-kit-13b logic dac8208d650f15bf"
+KIT = "rattle-kit-13f logic dac8208d650f15bf"
 
-# a proof of one crate takes up to so many GB of memory
-GIGABYTES = 4
+# how often it is told that a build goes on, where no terminal shows it all the time
+TOLD_EACH = 30
 
 COUNTED = re.compile(r"checked .*, (\d+) of (\d+)")
 
@@ -121,7 +124,8 @@ def prove_crate(crate, place, words):
     """Proves a crate, and shows on a terminal how many of its functions are done. Answers its status and what it printed last."""
     shown, last = sys.stderr.isatty(), []
     folder = os.path.join(TOP, "crates", crate)
-    with subprocess.Popen(["rt", *words], cwd=folder, stdin=subprocess.DEVNULL, stdout=subprocess.PIPE, stderr=subprocess.STDOUT, text=True, errors="replace") as running:
+    streams = {"stdin": subprocess.DEVNULL, "stdout": subprocess.PIPE, "stderr": subprocess.STDOUT}
+    with subprocess.Popen(["rt", *words], cwd=folder, **streams, text=True, errors="replace") as running:
         for line in running.stdout:
             found = COUNTED.match(line)
             if found and shown:
@@ -152,51 +156,116 @@ def prove():
     return 0
 
 
+def tell_of(program):
+    """Where a program stands, as it can be typed from here."""
+    place = os.path.relpath(program)
+    return place if os.sep in place else os.path.join(os.curdir, place)
+
+
+class Going:
+    """Shows how long a step takes while it goes on: on a terminal in one line, else with a line now and then."""
+
+    def __init__(self, step):
+        self.step, self.begun, self.ended = step, time.monotonic(), threading.Event()
+        self.thread = threading.Thread(target=self.show, daemon=True)
+
+    def show(self):
+        on_terminal = sys.stderr.isatty()
+        while not self.ended.wait(1 if on_terminal else TOLD_EACH):
+            told = f"{self.step}: {time.monotonic() - self.begun:.0f} s"
+            print(f"\r{told}" if on_terminal else told, end="" if on_terminal else "\n", file=sys.stderr, flush=True)
+        if on_terminal:
+            print("\r\x1b[K", end="", file=sys.stderr, flush=True)
+
+    def __enter__(self):
+        self.thread.start()
+
+    def __exit__(self, *_):
+        self.ended.set()
+        self.thread.join()
+
+
 def build_unproved():
+    """The program without proofs, built where it isn't up to date."""
     if is_current(UNPROVED):
-        return
+        return UNPROVED
     check_toolchain()
-    # (optimizing would take as long again)
-    tell("Building flecsq without proofs, once: one or two minutes.")
+    tell("Building flecsq without proofs: two to four minutes, once.")
     os.makedirs(os.path.dirname(UNPROVED), exist_ok=True)
     made = f"{UNPROVED}.{os.getpid()}"
-    ran = subprocess.run([sys.executable, os.path.join(TOP, "tools", "unproved.py"), "flecsq", made, "0"], stdout=subprocess.DEVNULL, check=False)
+    # (at level 2 it takes up to 1.6 times the proved program's instructions: what stands for its checks keeps calls out of line)
+    words = [sys.executable, os.path.join(TOP, "tools", "unproved.py"), "flecsq", made, "3"]
+    with Going("building"):
+        ran = subprocess.run(words, stdout=subprocess.DEVNULL, check=False)
     if ran.returncode or not os.path.isfile(made):
         why = "as told above" if ran.returncode >= 0 else f"since signal {-ran.returncode} came, perhaps for want of memory"
         raise Missing(f"flecsq could not be built, {why}.")
     os.replace(made, UNPROVED)
+    return UNPROVED
+
+
+def program():
+    """The program to use: the proved one where it is up to date, else the other."""
+    return PROVED if is_current(PROVED) else build_unproved()
+
+
+def tell_where(built):
+    """Where the program stands, and whether it is proved."""
+    if built == PROVED:
+        tell(f"The program: {tell_of(built)}, proved.")
+    else:
+        tell(f"The program: {tell_of(built)}, not proved (`make proved` proves it, in half an hour or more on four cores).")
+
+
+def build():
+    tell_where(program())
 
 
 def run(script):
     """Runs a script. That lines of it were refused is shown by its output, and is no failure here."""
-    program = PROVED
-    if not is_current(PROVED):
-        build_unproved()
-        tell("This build of flecsq isn't proved: `make proved` proves it, in half an hour or more.")
-        program = UNPROVED
-    status = subprocess.run([program, script], check=False).returncode
+    built = program()
+    status = subprocess.run([built, script], check=False).returncode
+    tell_where(built)
     return 0 if status == 1 else status
 
 
 def install(folder):
-    if prove():
-        return 1
-    for source, *below, mode in ((PROVED, "bin", 0o755), (MAN_PAGE, "share", "man", "man1", 0o644)):
+    """Puts the proved program and its man page there. An unproved program is only installed where that is asked for."""
+    if is_current(PROVED):
+        built = PROVED
+    elif os.environ.get("UNPROVED") == "1":
+        built = build_unproved()
+    else:
+        why = "is older than its sources" if os.path.isfile(PROVED) else "isn't built"
+        raise Missing(
+            f"Nothing is installed: the proved program {why}. `make proved` proves and builds it; `make install UNPROVED=1` installs the one without proofs."
+        )
+    for source, *below, mode in ((built, "bin", 0o755), (MAN_PAGE, "share", "man", "man1", 0o644)):
         place = os.path.join(folder, *below)
         os.makedirs(place, exist_ok=True)
         made = os.path.join(place, os.path.basename(source))
         shutil.copyfile(source, f"{made}.new")
         os.chmod(f"{made}.new", mode)
         os.replace(f"{made}.new", made)
-        tell(f"installed {made}")
+        tell(f"installed {made}{'' if built == PROVED or source != built else ', which is not proved'}")
     return 0
 
 
 def main(words):
-    commands = {("run", 2): lambda: run(words[1]), ("proved", 1): prove, ("install", 2): lambda: install(words[1]), ("need", 1): check_toolchain}
+    commands = {
+        ("run", 2): lambda: run(words[1]),
+        ("build", 1): build,
+        ("proved", 1): lambda: prove() or tell_where(PROVED),
+        ("install", 2): lambda: install(words[1]),
+        ("need", 1): check_toolchain,
+    }
+    if words in (["-h"], ["--help"]):
+        print(__doc__)
+        return 0
     command = commands.get((words[0] if words else "", len(words)))
     if command is None:
-        sys.exit(__doc__)
+        tell(__doc__)
+        return 2
     try:
         return command() or 0
     except Missing as missing:
