@@ -268,7 +268,8 @@ def main():
     goals = open_goals(crate, room, dear)
     functions = [Function(crate, it, folder_of(crate), goals[it]) for it in dear if goals.get(it)]
     try_candidates(crate, room, functions)
-    is_faster = lambda one: one.seconds is not None and before.search(one.name) - one.seconds >= max(GAIN * before.search(one.name), LEAST_GAIN)
+    gain = lambda one: before.search(one.name) - one.seconds if one.answers() and one.seconds is not None else 0.0
+    is_faster = lambda one: gain(one) >= max(GAIN * before.search(one.name), LEAST_GAIN)
     slow = [it for it in functions if not is_faster(it)]
     if slow:
         narrow(crate, room, slow)
