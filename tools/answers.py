@@ -174,7 +174,9 @@ class Function:
         lacking = [use for word, use in USES.items() if any(word in it for it in answers.values()) and not imports(text, word)]
         if " as goal" not in text:
             lacking.append(self.goal_use)
-        parts = ["\n".join([*lacking, text.strip("\n")]).strip("\n")]
+        # (what the file says of itself stays at its head)
+        head = re.match(r"(?:--.*\n)*", text)[0]
+        parts = [head + "\n".join([*lacking, text[len(head) :].strip("\n")]).strip("\n")]
         parts += [f"pub {goal} : goal.{goal}\n{goal}{self.goals[goal]} = {answer}" for goal, answer in answers.items()]
         return "\n\n".join(parts) + "\n"
 
