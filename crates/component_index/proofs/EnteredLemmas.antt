@@ -11,14 +11,14 @@ use Rattle.std.proofs.lemmas.Cmp.{eq_by_cmp_equiv}
 use Rattle.std.proofs.lemmas.Map.Views.{list_any-from_Contains, Contains-from_any}
 use Rattle.ecs_id.specs.Id.{Id}
 use Rattle.ecs_id.specs.declared.TableKey.{TableKey}
-use Rattle.component_index.specs.declared.pattern.Pattern.{Pattern}
-use Rattle.component_index.specs.Patterns.{matches}
+use Rattle.id_pattern.specs.declared.Pattern.{Pattern}
+use Rattle.id_pattern.specs.Patterns.{matches}
 use Rattle.ecs_id.specs.TableKeys.{table_eq}
 use Rattle.component_index.specs.Entered.{Entered, IsMatched, table_cmp, table_cmp_total, eq_by-table_cmp, same_table}
 use Rattle.component_index.specs.Listed.{is_listed, is_matched, Adds, Drops, AreListed, IsNewest, Keeps as KeepsOthers}
 use Rattle.component_index.specs.Mentions.{AreMarked, Keeps, may_match}
 use Rattle.component_index.specs.TableList.{has}
-use Rattle.component_index.specs.SamePattern.{pattern_eq}
+use Rattle.id_pattern.specs.SamePattern.{pattern_eq}
 use Rattle.component_index.proofs.MentionLemmas.{match_kept}
 use Rattle.component_index.proofs.ListedLemmas.{and_all}
 use Rattle.component_index.proofs.TableLemmas.{table_eq_equiv}

@@ -1,5 +1,5 @@
 -- What the lists of the patterns hold after a step, and after many.
-use Rattle.std.proofs.Common.{◌≡◌, ℕ, zero, suc, ◌≤◌, subst, ◌+◌, ◌<◌, ◌&&◌, ◌||◌, not, Bool, true, false, cond, true≢false, List, [], ◌∷◌, length, take, arith, Option, Some, None, refl, sym, ap, ◌∙◌, slice_index_or, unwrap_or, Result, Ok, Err, OnErr}
+use Rattle.std.proofs.Common.{◌≡◌, ℕ, zero, suc, ◌≤◌, subst, ◌+◌, ◌<◌, ◌&&◌, ◌||◌, not, Bool, true, false, cond, true≢false, List, [], ◌∷◌, length, take, arith, Option, Some, None, refl, sym, ap, ◌∙◌, slice_index_or, unwrap_or}
 use Rattle.std.specs.Option.{option_map_or}
 use Rattle.std.specs.HashMap.{HashMap, get}
 use Rattle.std.specs.List.{list_any}
@@ -7,11 +7,11 @@ use Rattle.std.proofs.lemmas.List.{take_all}
 use Rattle.std.proofs.lemmas.List.Folds.{list_any_more}
 use Rattle.std.proofs.lemmas.Bool.{or_right}
 use Rattle.ecs_id.specs.declared.TableKey.{TableKey}
-use Rattle.component_index.specs.declared.pattern.Pattern.{Pattern}
+use Rattle.id_pattern.specs.declared.Pattern.{Pattern}
 use Rattle.ecs_id.specs.TableKeys.{table_eq}
 use Rattle.component_index.specs.Listed.{is_listed, Adds, Drops, IsNewest, Keeps}
 use Rattle.component_index.specs.TableList.{has, IsNewOrLast}
-use Rattle.component_index.specs.SamePattern.{pattern_eq, same_pattern}
+use Rattle.id_pattern.specs.SamePattern.{pattern_eq, same_pattern}
 
 pub or_none : (b : Bool) → b ≡ (b || false)
 or_none true = refl
@@ -239,8 +239,3 @@ module _ {X : Type 0} (f : X → Pattern → Bool) (h : Pattern → Bool) (xs : 
 
   pub Keeps-each_new : Keeps m n (of_each (λ x p. f x p && not (h p)) xs) key → Keeps m n (λ p. of_each f xs p && not (h p)) key
   Keeps-each_new g p k e = g p k ((λ i. any_and (λ x. f x p) (not (h p)) xs i && table_eq key k) ∙ e)
-
--- what holds holds of an error
-pub on_err : {X E : Type 0} {P : Type 0} (r : Result X E) → P → OnErr r P
-on_err (Ok x) p = tt
-on_err (Err e) p = p

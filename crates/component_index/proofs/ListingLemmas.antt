@@ -10,13 +10,13 @@ use Rattle.indexmap.specs.IndexSet.{insert_all, insert_key}
 use Rattle.indexmap.proofs.CallerLemmas.{Contains-insert_key}
 use Rattle.indexmap.proofs.SetLemmas.{set_all_distinct}
 use Rattle.ecs_id.specs.declared.TableKey.{TableKey}
-use Rattle.component_index.specs.declared.pattern.Pattern.{Pattern}
+use Rattle.id_pattern.specs.declared.Pattern.{Pattern}
 use Rattle.ecs_id.specs.TableKeys.{table_eq}
 use Rattle.component_index.specs.Entered.{Entered, IsMatched, same_table}
 use Rattle.component_index.specs.Listed.{AreListed}
 use Rattle.component_index.specs.Listings.{Lists, ListsEntered, listed_in, lists_of}
 use Rattle.component_index.specs.Mentions.{MayBeListed, may_match}
-use Rattle.component_index.specs.SamePattern.{pattern_eq}
+use Rattle.id_pattern.specs.SamePattern.{pattern_eq}
 use Rattle.component_index.specs.TableList.{has}
 use Rattle.component_index.proofs.EnteredLemmas.{in_list, in_no_list, none_distinct}
 use Rattle.component_index.proofs.TableLemmas.{distinct_key, none_once, table_eq_equiv}

@@ -10,13 +10,13 @@ use Rattle.std.proofs.lemmas.List.{take_all}
 use Rattle.std.proofs.lemmas.List.Folds.{list_any_more}
 use Rattle.ecs_id.specs.Id.{Id, plain, pair, first_of, second_of}
 use Rattle.ecs_id.specs.declared.TableKey.{TableKey}
-use Rattle.component_index.specs.declared.pattern.Part.{Part}
-use Rattle.component_index.specs.declared.pattern.Part.TheVariants.{Is, Any}
-use Rattle.component_index.specs.declared.pattern.Pattern.{Pattern}
+use Rattle.id_pattern.specs.declared.Part.{Part}
+use Rattle.id_pattern.specs.declared.Part.TheVariants.{Is, Any}
+use Rattle.id_pattern.specs.declared.Pattern.{Pattern}
 use Rattle.component_index.specs.Entered.{Entered}
 use Rattle.component_index.specs.Listed.{AreListed}
 use Rattle.component_index.specs.Mentions.{AreMarked, Keeps, MayBeListed, may_match, may_take}
-use Rattle.component_index.specs.Patterns.{matches, takes}
+use Rattle.id_pattern.specs.Patterns.{matches, takes}
 
 -- ---- one id
 taken : (marks : List Bool) (part : Part) (i : ℕ) → slice_index_or marks i false ≡ true → takes part i ≡ true → may_take marks part ≡ true

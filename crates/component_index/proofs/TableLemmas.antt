@@ -20,7 +20,7 @@ use Rattle.ecs_id.specs.declared.TableKey.{TableKey}
 use Rattle.ecs_id.specs.TableKeys.{table_eq}
 use Rattle.component_index.specs.Entered.{table_cmp_total, eq_by-table_cmp, same_table}
 use Rattle.component_index.specs.TableList.{has, is_last, IsNewOrLast, IsPlace, Loses}
-pub use Rattle.component_index.proofs.ListedLemmas.{on_err}
+pub use Rattle.id_pattern.proofs.Errors.{on_err}
 
 pub table_eq_equiv : IsEquivalence table_eq
 table_eq_equiv = subst IsEquivalence (λ i x y. eq_by-table_cmp x y i) (eq_by_cmp_equiv table_cmp_total)

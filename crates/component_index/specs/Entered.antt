@@ -14,8 +14,8 @@ use Rattle.std.specs.FinMap as finite
 use Rattle.ecs_id.specs.Id.{Id}
 use Rattle.ecs_id.specs.TableKeys.{table_eq}
 use Rattle.ecs_id.specs.declared.TableKey.{TableKey}
-use Rattle.component_index.specs.declared.pattern.Pattern.{Pattern}
-use Rattle.component_index.specs.Patterns.{matches}
+use Rattle.id_pattern.specs.declared.Pattern.{Pattern}
+use Rattle.id_pattern.specs.Patterns.{matches}
 
 -- keys of tables by slot, then by serial number
 abbrev pub table_cmp : TableKey → TableKey → Ordering

@@ -3,7 +3,5 @@ pub mod Entered
 pub mod Listed
 pub mod Listings
 pub mod Mentions
-pub mod Patterns
-pub mod SamePattern
 pub mod TableList
 pub mod Tables

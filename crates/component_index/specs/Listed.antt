@@ -6,10 +6,10 @@ use Rattle.std.specs.HashMap.{HashMap, get}
 use Rattle.std.specs.FinMap as finite
 use Rattle.ecs_id.specs.Id.{Id, plain, pair}
 use Rattle.ecs_id.specs.declared.TableKey.{TableKey}
-use Rattle.component_index.specs.declared.pattern.Part.TheVariants.{Is, Any}
-use Rattle.component_index.specs.declared.pattern.Pattern.{Pattern}
-use Rattle.component_index.specs.Patterns.{matches, matches_some}
-use Rattle.component_index.specs.SamePattern.{pattern_eq}
+use Rattle.id_pattern.specs.declared.Part.TheVariants.{Is, Any}
+use Rattle.id_pattern.specs.declared.Pattern.{Pattern}
+use Rattle.id_pattern.specs.Patterns.{matches, matches_some}
+use Rattle.id_pattern.specs.SamePattern.{pattern_eq}
 use Rattle.ecs_id.specs.TableKeys.{table_eq}
 use Rattle.component_index.specs.Entered.{Entered}
 use Rattle.component_index.specs.TableList.{has, IsNewOrLast}

@@ -4,10 +4,10 @@ use Rattle.std.specs.Map.{lookup}
 use Rattle.std.specs.HashMap.{HashMap}
 use Rattle.indexmap.specs.IndexSet.{insert_all}
 use Rattle.ecs_id.specs.declared.TableKey.{TableKey}
-use Rattle.component_index.specs.declared.pattern.Pattern.{Pattern}
+use Rattle.id_pattern.specs.declared.Pattern.{Pattern}
 use Rattle.ecs_id.specs.TableKeys.{table_eq}
 use Rattle.component_index.specs.Entered.{Entered, IsMatched}
-use Rattle.component_index.specs.SamePattern.{pattern_eq}
+use Rattle.id_pattern.specs.SamePattern.{pattern_eq}
 
 -- patterns, each with its tables
 abbrev pub Lists : Type 0

@@ -3,9 +3,9 @@ use Rattle.std.specs.Prelude.{◌≡◌, ℕ, Bool, true, false, ◌&&◌, List,
 use Rattle.std.specs.Option.{option_map_or}
 use Rattle.std.specs.HashMap.{HashMap}
 use Rattle.ecs_id.specs.declared.TableKey.{TableKey}
-use Rattle.component_index.specs.declared.pattern.Part.{Part}
-use Rattle.component_index.specs.declared.pattern.Part.TheVariants.{Is, Any}
-use Rattle.component_index.specs.declared.pattern.Pattern.{Pattern}
+use Rattle.id_pattern.specs.declared.Part.{Part}
+use Rattle.id_pattern.specs.declared.Part.TheVariants.{Is, Any}
+use Rattle.id_pattern.specs.declared.Pattern.{Pattern}
 use Rattle.component_index.specs.Entered.{Entered}
 use Rattle.component_index.specs.Listed.{is_listed, is_matched}
 

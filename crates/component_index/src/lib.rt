@@ -8,12 +8,11 @@ ghost use Rattle.ecs_id.specs.declared.TableKey.{TableKey};
 ghost use Rattle.ecs_id.specs.TableKeys.{table_eq};
 ghost use Rattle.component_index.specs.Entered.{IsMatched};
 ghost use Rattle.component_index.specs.Listings.{listed_in, ListsEntered};
-ghost use Rattle.component_index.specs.declared.pattern.Pattern.{Pattern as Asked};
+ghost use Rattle.id_pattern.specs.declared.Pattern.{Pattern as Asked};
 
 mod listings;
 mod lists;
 mod mentions;
-mod pattern;
 mod places;
 mod register;
 mod table_list;
@@ -22,11 +21,10 @@ use crate::lists::{Lists, list_all, unlist_all};
 use crate::mentions::{Marks, note_all};
 use crate::places::Places;
 use crate::register::{Change, Register};
-pub use ecs_id::ListedKey;
-use ecs_id::{Id, TableKey};
+use ecs_id::{Id, ListedKey, TableKey};
+use id_pattern::Pattern;
 use indexmap::IndexMap;
 pub use listings::Listings;
-pub use pattern::{Part, Pattern};
 use secret_hashing::Hashing;
 use std::alloc::{AllocError, Allocator, Global};
 use std::hash::RandomState;
@@ -38,12 +36,22 @@ use std::marker::Model;
 /// `tables_of` takes constant time. So it is whichever ids the tables have, since nobody who chooses them knows the
 /// random keys. A list of an entity that no table ever mentioned is known to be empty without a look-up. Only `enter`
 /// takes memory.
-#[derive(Drop)]
 pub struct ComponentIndex<A: Allocator = Global> {
     entered: Register,
     lists: Lists<A>,
     mentioned: Marks<A>,
     places: Places<A>,
+}
+
+impl<A: Allocator> Drop for ComponentIndex<A> {
+    fn drop(self) {
+        let Self {
+            entered: _,
+            lists: _,
+            mentioned: _,
+            places: _,
+        } = self;
+    }
 }
 
 impl<A: Allocator> Model for ComponentIndex<A> {

@@ -7,8 +7,8 @@ ghost use Rattle.component_index.specs.Mentions.{MayBeListed};
 
 use crate::lists::Lists;
 use crate::mentions::{Marks, may_match};
-use crate::pattern::Pattern;
 use ecs_id::ListedKey;
+use id_pattern::Pattern;
 use std::alloc::Allocator;
 use std::marker::Model;
 

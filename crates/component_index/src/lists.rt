@@ -3,14 +3,14 @@ ghost use Rattle.std.specs.Prelude.{◌≡◌, ◌&&◌, not, None, OnErr, OnOk}
 ghost use Rattle.std.specs.HashMap.{get};
 ghost use Rattle.std.specs.List.{list_any};
 ghost use Rattle.ecs_id.specs.Id.{pair, plain};
-ghost use Rattle.component_index.specs.Patterns.{matches, matches_some};
-ghost use Rattle.component_index.specs.SamePattern.{pattern_eq};
+ghost use Rattle.id_pattern.specs.Patterns.{matches, matches_some};
+ghost use Rattle.id_pattern.specs.SamePattern.{pattern_eq};
 ghost use Rattle.component_index.specs.Listed.{is_among, is_new, patterns_of, Adds, Drops, IsNewest, Keeps};
 
-use crate::pattern::{Part, Pattern};
 use crate::places::Places;
 use crate::table_list::TableList;
 use ecs_id::{Id, ListedKey, TableKey};
+use id_pattern::{Part, Pattern};
 use indexmap::IndexMap;
 use secret_hashing::Hashing;
 use std::alloc::{AllocError, Allocator};

@@ -2,11 +2,11 @@
 ghost use Rattle.std.specs.Prelude.{◌≡◌, ◌<◌, ℕ, length, slice_index_or, false, true, OnOk};
 ghost use Rattle.std.specs.List.{list_any};
 ghost use Rattle.component_index.specs.Mentions.{Keeps, may_match, may_take};
-ghost use Rattle.component_index.specs.Patterns.{matches};
-ghost use Rattle.component_index.specs.declared.pattern.Pattern.{Pattern as Asked};
+ghost use Rattle.id_pattern.specs.Patterns.{matches};
+ghost use Rattle.id_pattern.specs.declared.Pattern.{Pattern as Asked};
 
-use crate::pattern::{Part, Pattern};
 use ecs_id::Id;
+use id_pattern::{Part, Pattern};
 use std::alloc::{AllocError, Allocator};
 
 /// A mark for each index that an id mentions which was noted, up to the greatest of them. Marks stay.

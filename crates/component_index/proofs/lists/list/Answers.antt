@@ -1,6 +1,6 @@
 use Rattle.std.proofs.Common.{rules, ◌≡◌, [], Some, unwrap_or, subst, sym, ap, ◌∙◌}
 use Rattle.std.specs.HashMap.{get}
-use Rattle.component_index.specs.SamePattern.{pattern_eq}
+use Rattle.id_pattern.specs.SamePattern.{pattern_eq}
 use Rattle.component_index.specs.TableList.{has, IsNewOrLast}
 use Rattle.component_index.proofs.ListedLemmas.{Adds-one, IsNewest-one}
 use Rattle.component_index.proofs.TableLemmas.{has-insert_key, last_inserted}

@@ -1,6 +1,7 @@
 use Rattle.std.proofs.Common.{arith, true≢false, sym}
-use Rattle.component_index.specs.Patterns.{matches, matches_some}
-use Rattle.component_index.proofs.ListedLemmas.{Adds-begin, Adds-new, Adds-end, Keeps-new, had-next, on_err}
+use Rattle.id_pattern.specs.Patterns.{matches, matches_some}
+use Rattle.component_index.proofs.ListedLemmas.{Adds-begin, Adds-new, Adds-end, Keeps-new, had-next}
+use Rattle.id_pattern.proofs.Errors.{on_err}
 use Rattle.component_index.proofs.lists.list_all.Goals as goal
 
 pub loop-id-init : goal.loop-id-init

@@ -1,7 +1,8 @@
 use Rattle.std.proofs.Common.{◌&&◌, not, arith, refl}
-use Rattle.component_index.specs.Patterns.{matches_some}
-use Rattle.component_index.specs.SamePattern.{pattern_eq}
-use Rattle.component_index.proofs.ListedLemmas.{Adds-begin, Adds-more, Adds-end, Keeps-more, Adds-each_new, Keeps-each_new, on_err}
+use Rattle.id_pattern.specs.Patterns.{matches_some}
+use Rattle.id_pattern.specs.SamePattern.{pattern_eq}
+use Rattle.component_index.proofs.ListedLemmas.{Adds-begin, Adds-more, Adds-end, Keeps-more, Adds-each_new, Keeps-each_new}
+use Rattle.id_pattern.proofs.Errors.{on_err}
 use Rattle.component_index.proofs.lists.list_each.Goals as goal
 
 pub loop-pattern-init : goal.loop-pattern-init

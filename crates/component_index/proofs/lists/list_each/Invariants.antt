@@ -1,6 +1,6 @@
 use Rattle.std.proofs.Common.{◌&&◌, not}
-use Rattle.component_index.specs.Patterns.{matches_some}
-use Rattle.component_index.specs.SamePattern.{pattern_eq}
+use Rattle.id_pattern.specs.Patterns.{matches_some}
+use Rattle.id_pattern.specs.SamePattern.{pattern_eq}
 use Rattle.component_index.specs.Listed.{Adds, IsNewest}
 use Rattle.component_index.proofs.ListedLemmas.{of_first}
 use Rattle.component_index.proofs.lists.list_each.Given as goal

@@ -1,6 +1,6 @@
 use Rattle.std.proofs.Common.{rules, ◌≡◌, Some, None, sym, ◌∙◌}
 use Rattle.std.specs.HashMap.{get}
-use Rattle.component_index.specs.SamePattern.{pattern_eq}
+use Rattle.id_pattern.specs.SamePattern.{pattern_eq}
 use Rattle.component_index.proofs.ListedLemmas.{Drops-one, gone_at, has_none}
 use Rattle.component_index.proofs.lists.unlist.Goals as goal
 

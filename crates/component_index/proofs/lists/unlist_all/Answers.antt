@@ -1,5 +1,5 @@
 use Rattle.std.proofs.Common.{arith, true≢false, sym}
-use Rattle.component_index.specs.Patterns.{matches, matches_some}
+use Rattle.id_pattern.specs.Patterns.{matches, matches_some}
 use Rattle.component_index.proofs.ListedLemmas.{Drops-begin, Drops-new, Drops-end, had-next}
 use Rattle.component_index.proofs.lists.unlist_all.Goals as goal
 

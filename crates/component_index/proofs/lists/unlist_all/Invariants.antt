@@ -1,7 +1,7 @@
 use Rattle.std.proofs.Common.{◌≡◌, true}
-use Rattle.component_index.specs.declared.pattern.Pattern.{Pattern}
+use Rattle.id_pattern.specs.declared.Pattern.{Pattern}
 use Rattle.component_index.specs.Listed.{Drops}
-use Rattle.component_index.specs.Patterns.{matches, matches_some}
+use Rattle.id_pattern.specs.Patterns.{matches, matches_some}
 use Rattle.component_index.proofs.ListedLemmas.{of_first}
 use Rattle.component_index.proofs.lists.unlist_all.Given as goal
 

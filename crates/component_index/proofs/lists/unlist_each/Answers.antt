@@ -1,6 +1,6 @@
 use Rattle.std.proofs.Common.{◌&&◌, not, arith, refl}
-use Rattle.component_index.specs.Patterns.{matches_some}
-use Rattle.component_index.specs.SamePattern.{pattern_eq}
+use Rattle.id_pattern.specs.Patterns.{matches_some}
+use Rattle.id_pattern.specs.SamePattern.{pattern_eq}
 use Rattle.component_index.proofs.ListedLemmas.{Drops-begin, Drops-more, Drops-end, Drops-each_new}
 use Rattle.component_index.proofs.lists.unlist_each.Goals as goal
 

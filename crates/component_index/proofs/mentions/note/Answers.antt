@@ -1,9 +1,9 @@
 use Rattle.std.proofs.Common.{◌≡◌, ℕ, Bool, true, false, List, None, Some, slice_index_or, sym, subst, ◌∙◌}
 use Rattle.std.specs.Prelude.{Result, Ok, Err, OnOk}
 use Rattle.ecs_id.specs.Id.{Id, first_of, second_of}
-use Rattle.component_index.specs.declared.pattern.Pattern.{Pattern}
+use Rattle.id_pattern.specs.declared.Pattern.{Pattern}
 use Rattle.component_index.specs.Mentions.{Keeps, may_match}
-use Rattle.component_index.specs.Patterns.{matches}
+use Rattle.id_pattern.specs.Patterns.{matches}
 use Rattle.component_index.proofs.MentionLemmas.{Keeps-steps, noted}
 use Rattle.component_index.proofs.mentions.note.Goals as goal
 

@@ -1,6 +1,8 @@
 //! What a query asks of an id.
+#![tactic(auto)]
+
 ghost use Rattle.std.specs.Prelude.{◌≡◌};
-ghost use Rattle.component_index.specs.Patterns.{index_or, matches, matches_some, packed, takes};
+ghost use Rattle.id_pattern.specs.Patterns.{index_or, matches, matches_some, packed, takes};
 
 use ecs_id::Id;
 use std::hash::{Hash, Hasher};
@@ -58,7 +60,8 @@ impl Pattern {
         }
     }
 
-    pub(crate) fn matches_some(self, id: &Option<Id>) -> bool
+    /// Whether there is an id that it matches.
+    pub fn matches_some(self, id: &Option<Id>) -> bool
         ensures { result ≡ matches_some self id.now }
     {
         match id {
@@ -67,8 +70,9 @@ impl Pattern {
         }
     }
 
-    // No entity has the index 0 or `u32::MAX`.
-    pub(crate) fn packed(self) -> u64
+    /// The number by which it is hashed. No entity has the index 0 or `u32::MAX`, so no two patterns that ask for
+    /// entities share one.
+    pub fn packed(self) -> u64
         ensures { result ≡ packed self }
     {
         let first = self.first.index_or(0);
@@ -85,7 +89,7 @@ const SHIFT: u64 = 1 << 32;
 impl Hash for Pattern {
     ghost use Rattle.std.proofs.Common.{ap};
     ghost use Rattle.std.specs.Hash as fed;
-    ghost use Rattle.component_index.specs.SamePattern.{same_pattern};
+    ghost use Rattle.id_pattern.specs.SamePattern.{same_pattern};
 
     ghost hash_input = { λ p. fed.u64 (packed p) };
 

@@ -2,9 +2,9 @@
 use Rattle.std.specs.Prelude.{ℕ, ◌+◌, ◌-◌, ◌*◌, ◌^◌, ◌==◌, ◌&&◌, Bool, true, false, Option, Some, None}
 use Rattle.std.specs.Option.{option_map_or}
 use Rattle.ecs_id.specs.Id.{Id, plain, pair}
-use Rattle.component_index.specs.declared.pattern.Part.{Part}
-use Rattle.component_index.specs.declared.pattern.Part.TheVariants.{Is, Any}
-use Rattle.component_index.specs.declared.pattern.Pattern.{Pattern}
+use Rattle.id_pattern.specs.declared.Part.{Part}
+use Rattle.id_pattern.specs.declared.Part.TheVariants.{Is, Any}
+use Rattle.id_pattern.specs.declared.Pattern.{Pattern}
 
 -- the part asks for this index, or for any
 abbrev pub takes : Part → ℕ → Bool
