@@ -43,7 +43,6 @@ impl From<AllocError> for CreateError {
 }
 
 /// The entities that live, their generations, and where their rows stand: see `EntityIndex`.
-#[derive(Drop)]
 pub struct SlotIndex<A: Allocator = Global> {
     // by index, up to the greatest that was used
     slots: Vec<EntitySlot, A>,
@@ -52,6 +51,17 @@ pub struct SlotIndex<A: Allocator = Global> {
     // the indexes of slots that can be given out again, with the smallest on top
     free: BinaryHeap<Reverse<u32>, A>,
     last: u32,
+}
+
+impl<A: Allocator> Drop for SlotIndex<A> {
+    fn drop(self) {
+        let Self {
+            slots: _,
+            places: _,
+            free: _,
+            last: _,
+        } = self;
+    }
 }
 
 impl<A: Allocator> Model for SlotIndex<A> {

@@ -25,11 +25,16 @@ use std::marker::Model;
 /// constant time; the iterator passes each index that was used. `delete` of the greatest live index also passes the
 /// dead ones below it, each of which some `create` had passed. Only `new` and `create` take memory, which grows with
 /// the greatest index used.
-#[derive(Drop)]
 pub struct EntityIndex<A: Allocator = Global> {
     inner: SlotIndex<A>,
     /// The greatest live index plus 1.
     size: u32,
+}
+
+impl<A: Allocator> Drop for EntityIndex<A> {
+    fn drop(self) {
+        let Self { inner: _, size: _ } = self;
+    }
 }
 
 impl<A: Allocator> Model for EntityIndex<A> {

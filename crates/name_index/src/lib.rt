@@ -38,11 +38,20 @@ type ByLong<A> = IndexMap<String<A>, EntityId, Keyed, A>;
 ///
 /// But for growth, each call takes constant time for names of at most 15 bytes, whatever they are, since nobody who
 /// chooses them knows the random keys. Longer names are kept apart, and of each entity in order.
-#[derive(Drop)]
 pub struct NameIndex<A: Allocator = Global> {
     short: ByShort<A>,
     long: ByLong<A>,
     texts: Texts<A>,
+}
+
+impl<A: Allocator> Drop for NameIndex<A> {
+    fn drop(self) {
+        let Self {
+            short: _,
+            long: _,
+            texts: _,
+        } = self;
+    }
 }
 
 impl<A: Allocator> Model for NameIndex<A> {

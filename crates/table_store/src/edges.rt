@@ -33,13 +33,20 @@ pub struct Several<A: Allocator> {
 ///
 /// Most tables have one edge or none, and these take no memory of their own. A few take a block, and those of tables
 /// with many are hashed, so a look-up takes constant time whatever the ids.
-#[derive(Drop)]
 pub enum Edges<A: Allocator> {
     Empty,
     One(Edge),
     Few(Vec<Edge, A>),
     // in a box, since few tables have so many
     Many(Box<Several<A>, A>),
+}
+
+impl<A: Allocator> Drop for Edges<A> {
+    fn drop(self) {
+        match self {
+            Edges::Empty | Edges::One(_) | Edges::Few(_) | Edges::Many(_) => {}
+        }
+    }
 }
 
 const _: () = prove!(size_of::<Edges<Global>>() == 32);

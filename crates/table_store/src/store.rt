@@ -40,7 +40,6 @@ use std::mem;
 /// A table with its serial, and the edges that lead from it.
 ///
 /// The serial stands before what comes first in a table, as these are read together.
-#[derive(Drop)]
 pub(crate) struct TableSlot<A: Allocator> {
     // of 64 bits, as no key with a greater serial is given
     pub(crate) serial: u64,
@@ -49,6 +48,17 @@ pub(crate) struct TableSlot<A: Allocator> {
     more: Edges<A>,
     // for an id, the table with it taken away
     less: Edges<A>,
+}
+
+impl<A: Allocator> Drop for TableSlot<A> {
+    fn drop(self) {
+        let Self {
+            serial: _,
+            table: _,
+            more: _,
+            less: _,
+        } = self;
+    }
 }
 
 const _: () = prove!(size_of::<TableSlot<Global>>() == 184);
@@ -61,7 +71,6 @@ pub(crate) type Slots<A> = Slab<Box<TableSlot<A>, A>, A>;
 type BySerial<A> = Vec<ListedKey, A>;
 
 /// The tables of a world, one for each set of ids.
-#[derive(Drop)]
 pub struct TableStore<A: Allocator = Global> {
     tables: Slots<A>,
     // for each slot, whether the table there has rows: where tables are gone through, most have none
@@ -77,6 +86,23 @@ pub struct TableStore<A: Allocator = Global> {
     // the slot of the table that was found or made last, which is mostly the one that is asked for next
     recent: u32,
     alloc: A,
+}
+
+impl<A: Allocator> Drop for TableStore<A> {
+    fn drop(self) {
+        let Self {
+            tables: _,
+            filled: _,
+            by_ids: _,
+            by_serial: _,
+            last: _,
+            hashing: _,
+            cells: _,
+            ids: _,
+            recent: _,
+            alloc: _,
+        } = self;
+    }
 }
 
 impl<A: Allocator> Model for TableStore<A> {

@@ -1,3 +1,4 @@
+use Rattle.std.proofs.Common.{arith}
 use Rattle.std.proofs.Common.{◌≡◌, ℕ, ◌<◌, ◌≤◌, ◌+◌, None, Some, List, length, nat_lt, not, sym, ap, subst, ◌∙◌}
 use Rattle.slab.specs.Slab.{Updates, with_value}
 use Rattle.ecs_id.specs.declared.EntityId.{EntityId}
@@ -97,3 +98,24 @@ returns-clause-whole g c =
     let u = subst (λ n. Updates (with_value c.remove-source.new.self c.args.to.slot (record c.index_mut.result.now { value = record c.deref_mut.result.now { table = c.move_to-moved.new.target } })) c.insert_reserved.new.self n (Some (record c.remove-source.result { value = record c.deref_mut-2.result.now { table = c.move_to-moved.new.self } })))
     (c.insert_reserved.ensures.key ∙ c.remove-source.ensures.key_is_next) c.insert_reserved.ensures.updates in
     moved_stored c.self.inside.tables c.remove-source.new.self c.insert_reserved.new.self c.self.inside.last c.args.self.now c.self.view_is c.self.inside.by_ids c.self.inside.by_serial c.self.invariant.0 c.args.from c.args.to c.requires.apart f.0 t.0 f.1 t.1 c.args.row f.2 c.remove-source.result c.remove-source.ensures.value c.remove-source.ensures.updates c.index_mut.result.now c.index_mut.ensures.value c.deref_mut-2.result.now c.deref_mut.result.now c.deref_mut-2.ensures.value c.deref_mut.ensures.value c.move_to-moved.new.self c.move_to-moved.new.target c.move_to-moved.ensures.left c.move_to-moved.ensures.came u
+
+pub overflow_cast-from : goal.overflow_cast-from
+overflow_cast-from g c = grind arith
+
+pub overflow_cast-to : goal.overflow_cast-to
+overflow_cast-to g c = grind arith
+
+pub overflow_cast-to-2 : goal.overflow_cast-to-2
+overflow_cast-to-2 g c = grind arith
+
+pub index_mut-requires-2 : goal.index_mut-requires-2
+index_mut-requires-2 g c = grind arith
+
+pub overflow_cast-from-2 : goal.overflow_cast-from-2
+overflow_cast-from-2 g c = grind arith
+
+pub index_mut-requires-3 : goal.index_mut-requires-3
+index_mut-requires-3 g c = grind arith
+
+pub returns-clause-last : goal.returns-clause-last
+returns-clause-last g c = grind arith
