@@ -1,3 +1,4 @@
+use Rattle.std.proofs.Common.{arith}
 use Rattle.std.proofs.Common.{sym, ap, ◌∙◌, [], ◌∷◌, of_z}
 use Rattle.std.specs.Int.{w8, w16, w32, w64, to_le_bytes}
 use Rattle.ecs_model.specs.Bytes.{number_bytes}
@@ -69,3 +70,75 @@ returns-in-U64 c =
     c.copy_from_slice-in-U64.ensures.after ∙ c.to_le_bytes-in-U64.ensures
     ∙ ap (to_le_bytes w64) (written_unsigned w64 c.args.number (first_true _ _ fits) c.ranges.number)
     ∙ ap (λ k. number_bytes k c.args.number) (sym c.in-U64.is)
+
+pub overflow_cast-number : goal.overflow_cast-number
+overflow_cast-number c = grind arith
+
+pub slice_bounds-copy_from_slice-end : goal.slice_bounds-copy_from_slice-end
+slice_bounds-copy_from_slice-end c = grind arith
+
+pub copy_from_slice-requires : goal.copy_from_slice-requires
+copy_from_slice-requires c = grind arith
+
+pub overflow_cast-number-in-U8 : goal.overflow_cast-number-in-U8
+overflow_cast-number-in-U8 c = grind arith
+
+pub slice_bounds-copy_from_slice-end-in-U8 : goal.slice_bounds-copy_from_slice-end-in-U8
+slice_bounds-copy_from_slice-end-in-U8 c = grind arith
+
+pub copy_from_slice-requires-in-U8 : goal.copy_from_slice-requires-in-U8
+copy_from_slice-requires-in-U8 c = grind arith
+
+pub overflow_cast-number-in-I16 : goal.overflow_cast-number-in-I16
+overflow_cast-number-in-I16 c = grind arith
+
+pub slice_bounds-copy_from_slice-end-in-I16 : goal.slice_bounds-copy_from_slice-end-in-I16
+slice_bounds-copy_from_slice-end-in-I16 c = grind arith
+
+pub copy_from_slice-requires-in-I16 : goal.copy_from_slice-requires-in-I16
+copy_from_slice-requires-in-I16 c = grind arith
+
+pub overflow_cast-number-in-U16 : goal.overflow_cast-number-in-U16
+overflow_cast-number-in-U16 c = grind arith
+
+pub slice_bounds-copy_from_slice-end-in-U16 : goal.slice_bounds-copy_from_slice-end-in-U16
+slice_bounds-copy_from_slice-end-in-U16 c = grind arith
+
+pub copy_from_slice-requires-in-U16 : goal.copy_from_slice-requires-in-U16
+copy_from_slice-requires-in-U16 c = grind arith
+
+pub overflow_cast-number-in-I32 : goal.overflow_cast-number-in-I32
+overflow_cast-number-in-I32 c = grind arith
+
+pub slice_bounds-copy_from_slice-end-in-I32 : goal.slice_bounds-copy_from_slice-end-in-I32
+slice_bounds-copy_from_slice-end-in-I32 c = grind arith
+
+pub copy_from_slice-requires-in-I32 : goal.copy_from_slice-requires-in-I32
+copy_from_slice-requires-in-I32 c = grind arith
+
+pub overflow_cast-number-in-U32 : goal.overflow_cast-number-in-U32
+overflow_cast-number-in-U32 c = grind arith
+
+pub slice_bounds-copy_from_slice-end-in-U32 : goal.slice_bounds-copy_from_slice-end-in-U32
+slice_bounds-copy_from_slice-end-in-U32 c = grind arith
+
+pub copy_from_slice-requires-in-U32 : goal.copy_from_slice-requires-in-U32
+copy_from_slice-requires-in-U32 c = grind arith
+
+pub overflow_cast-number-in-I64 : goal.overflow_cast-number-in-I64
+overflow_cast-number-in-I64 c = grind arith
+
+pub slice_bounds-copy_from_slice-end-in-I64 : goal.slice_bounds-copy_from_slice-end-in-I64
+slice_bounds-copy_from_slice-end-in-I64 c = grind arith
+
+pub copy_from_slice-requires-in-I64 : goal.copy_from_slice-requires-in-I64
+copy_from_slice-requires-in-I64 c = grind arith
+
+pub overflow_cast-number-in-U64 : goal.overflow_cast-number-in-U64
+overflow_cast-number-in-U64 c = grind arith
+
+pub slice_bounds-copy_from_slice-end-in-U64 : goal.slice_bounds-copy_from_slice-end-in-U64
+slice_bounds-copy_from_slice-end-in-U64 c = grind arith
+
+pub copy_from_slice-requires-in-U64 : goal.copy_from_slice-requires-in-U64
+copy_from_slice-requires-in-U64 c = grind arith

@@ -1,3 +1,4 @@
+use Rattle.std.proofs.lemmas.Grind.{common_steps}
 use Rattle.std.proofs.Common.{◌≡◌, ◌+◌, length, sym, ap, ◌∙◌, arith, rules, FitsSigned, to_z, of_z}
 use Rattle.std.specs.Int.{w128}
 use Rattle.std.specs.Slice.Iter.{iter_rest}
@@ -56,3 +57,18 @@ returns g c =
     let count = c.requires.value.0 in
     value_bytes-whole c.args.fields.now c.args.values.now (length c.loop-field.yielded) c.loop-field.start c.args.bytes.now c.loop-field.bytes (omega arith) (omega arith) c.requires.size
     c.loop-field.invariant.0 c.loop-field.invariant.1
+
+pub loop-field-init : goal.loop-field-init
+loop-field-init g c = grind arith
+
+pub overflow_add-end : goal.overflow_add-end
+overflow_add-end g c = grind (arith, common_steps)
+
+pub slice_bounds-write_number-count : goal.slice_bounds-write_number-count
+slice_bounds-write_number-count g c = grind arith
+
+pub slice_bounds-write_number-start : goal.slice_bounds-write_number-start
+slice_bounds-write_number-start g c = grind arith
+
+pub write_number-requires-clause-width : goal.write_number-requires-clause-width
+write_number-requires-clause-width g c = grind arith
