@@ -12,8 +12,8 @@ use Rattle.ecs_id.specs.declared.EntityId.{EntityId}
 use Rattle.ecs_id.specs.declared.Place.{Place}
 use Rattle.ecs_id.specs.declared.TableKey.{TableKey}
 use Rattle.ecs_id.specs.Id.{id_cmp, id_cmp_total}
-use Rattle.component_index.specs.declared.pattern.Pattern.{Pattern}
-use Rattle.component_index.specs.Patterns.{matches}
+use Rattle.id_pattern.specs.declared.Pattern.{Pattern}
+use Rattle.id_pattern.specs.Patterns.{matches}
 use Rattle.ecs_model.specs.Map.{has_key, keys, value_at}
 use Rattle.ecs_model.proofs.Maps.{of_some, some_of}
 use Rattle.ecs_model.proofs.Members.{filtered, from_flat_map, in_flat_map, passing}

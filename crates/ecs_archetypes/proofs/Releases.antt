@@ -9,7 +9,7 @@ use Rattle.ecs_id.specs.declared.TableKey.{TableKey}
 use Rattle.ecs_id.specs.Id.{Id}
 use Rattle.ecs_table.specs.Archetype.{Archetype}
 use Rattle.ecs_model.proofs.Maps.{some_of}
-use Rattle.component_index.specs.declared.pattern.Pattern.{Pattern}
+use Rattle.id_pattern.specs.declared.Pattern.{Pattern}
 use Rattle.component_index.specs.Entered.{Entered, IsMatched, table_cmp, table_cmp_total}
 use Rattle.table_store.specs.Going.{goes_on_same}
 use Rattle.table_store.specs.Rows.{IsStored, row_at, rows_in}

@@ -8,8 +8,8 @@ use Rattle.ecs_id.specs.declared.TableKey.{TableKey}
 use Rattle.ecs_id.specs.Id.{Id, id_cmp, id_eq, id_eq_same}
 use Rattle.ecs_model.specs.Map.{keys}
 use Rattle.ecs_model.proofs.Maps.{some_of}
-use Rattle.component_index.specs.declared.pattern.Pattern.{Pattern}
-use Rattle.component_index.specs.Patterns.{matches}
+use Rattle.id_pattern.specs.declared.Pattern.{Pattern}
+use Rattle.id_pattern.specs.Patterns.{matches}
 use Rattle.entity_index.specs.Entities.{Entities, place_of}
 use Rattle.table_store.specs.Rows.{Cells, Row, row_at, shape_of_cells}
 use Rattle.table_store.specs.Store.{Store, ids_at}

@@ -6,8 +6,8 @@ use Rattle.ecs_id.specs.declared.Place.{Place}
 use Rattle.ecs_id.specs.declared.TableKey.{TableKey}
 use Rattle.ecs_id.specs.Id.{Id}
 use Rattle.ecs_model.specs.Map.{keys}
-use Rattle.component_index.specs.declared.pattern.Pattern.{Pattern}
-use Rattle.component_index.specs.Patterns.{matches}
+use Rattle.id_pattern.specs.declared.Pattern.{Pattern}
+use Rattle.id_pattern.specs.Patterns.{matches}
 use Rattle.ecs_archetypes.specs.Holdings.{cells_at, holds_id, lives}
 use Rattle.ecs_archetypes.specs.Housing.{Housing, holdings_of}
 use Rattle.entity_index.specs.Entities.{place_of}

@@ -1,7 +1,7 @@
 //! Entities and tables that go, and memory that is given back.
 ghost use Rattle.std.specs.Prelude.{◌≡◌, false, IsTrue};
 ghost use Rattle.std.specs.List.{list_any};
-ghost use Rattle.component_index.specs.Patterns.{matches};
+ghost use Rattle.id_pattern.specs.Patterns.{matches};
 ghost use Rattle.ecs_id.specs.declared.TableKey.{TableKey};
 ghost use Rattle.ecs_archetypes.specs.Holdings.{AreHoldings, HoldAlike, is_settled, without_entity};
 ghost use Rattle.ecs_archetypes.specs.Housing.{IsHoused, holdings_of};
@@ -14,8 +14,8 @@ ghost use Rattle.table_store.specs.Rows.{rows_in};
 
 use crate::Archetypes;
 use crate::rows::leave_alone;
-use component_index::Pattern;
 use ecs_id::{EntityId, TableKey};
+use id_pattern::Pattern;
 use std::alloc::Allocator;
 
 impl<A: Allocator + Copy> Archetypes<A> {

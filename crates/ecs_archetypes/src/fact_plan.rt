@@ -59,11 +59,16 @@ impl SizedFact {
 }
 
 /// What changes of facts are planned in. Whoever makes many keeps one, so that its memory serves them all.
-#[derive(Drop)]
 pub struct FactPlan<A: Allocator = Global> {
     pub(crate) moves: MovePlan<A>,
     /// The ids of one entity, while its move is planned.
     pub(crate) ids: Vec<SizedId, A>,
+}
+
+impl<A: Allocator> Drop for FactPlan<A> {
+    fn drop(self) {
+        let Self { moves: _, ids: _ } = self;
+    }
 }
 
 impl<A: Allocator + Copy> FactPlan<A> {

@@ -62,10 +62,18 @@ use std::marker::Model;
 /// the last of its table. `change_facts` takes all memory that its moves need before the first of them. A table that
 /// lost most of its rows gives memory back, after `add`, `remove` and `replace`, after the last move of `change_facts`,
 /// and after each death. Readers take no memory, and look at no more than the ids of one table.
-#[derive(Drop)]
 pub struct Archetypes<A: Allocator = Global> {
     entities: EntityIndex<A>,
     tables: EnteredTables<A>,
+}
+
+impl<A: Allocator> Drop for Archetypes<A> {
+    fn drop(self) {
+        let Self {
+            entities: _,
+            tables: _,
+        } = self;
+    }
 }
 
 impl<A: Allocator> Model for Archetypes<A> {

@@ -4,8 +4,9 @@ ghost use Rattle.std.specs.Prelude.{◌≡◌};
 ghost use Rattle.ecs_archetypes.specs.Linked.{AreLinked, AreListsOf, Linked};
 
 use crate::{Archetypes, TableGraph as Tables};
-use component_index::{ListedKey, Listings, Pattern};
-use ecs_id::{EntityId, Id};
+use component_index::Listings;
+use ecs_id::{EntityId, Id, ListedKey};
+use id_pattern::Pattern;
 use rel_travel::{Graph, Holders};
 use std::alloc::Allocator;
 use std::marker::Model;

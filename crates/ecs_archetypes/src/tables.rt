@@ -4,7 +4,7 @@ ghost use Rattle.std.specs.Prelude.{IsTrue, MatchOption, nat_le};
 ghost use Rattle.std.specs.List.{Contains, IsDistinct, list_all};
 ghost use Rattle.std.specs.FinMap as finite;
 ghost use Rattle.component_index.specs.Listings.{listed_in};
-ghost use Rattle.component_index.specs.declared.pattern.Pattern.{Pattern as Asked};
+ghost use Rattle.id_pattern.specs.declared.Pattern.{Pattern as Asked};
 ghost use Rattle.ecs_id.specs.Id.{id_cmp};
 ghost use Rattle.ecs_id.specs.TableKeys.{table_eq};
 ghost use Rattle.ecs_id.specs.declared.Place.{Place};
@@ -22,9 +22,10 @@ ghost use Rattle.table_store.specs.Store.{Shape, Store, find_in, room_at, shape_
 ghost use Rattle.table_store.specs.Store.{without_id};
 
 use crate::plans::Room;
-use component_index::{ComponentIndex, ListedKey, Listings, Pattern};
-use ecs_id::{Id, TableKey};
+use component_index::{ComponentIndex, Listings};
+use ecs_id::{Id, ListedKey, TableKey};
 use ecs_table::Table;
+use id_pattern::Pattern;
 use raw_column::Memory;
 use std::alloc::Allocator;
 use std::hash::RandomState;

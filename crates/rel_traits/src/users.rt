@@ -2,7 +2,8 @@
 ghost use Rattle.std.specs.Prelude.{◌≡◌, ◌==◌, flat_map, length, not};
 ghost use Rattle.ecs_model.specs.Added.{is_used};
 
-use component_index::{ListedKey, Part, Pattern};
+use ecs_id::ListedKey;
+use id_pattern::{Part, Pattern};
 use rel_travel::Holders;
 
 /// Whether a fact uses the entity as component or relationship.

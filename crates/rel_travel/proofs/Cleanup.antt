@@ -6,9 +6,9 @@ use Rattle.std.proofs.lemmas.Bool.Decides.{nat_tests}
 use Rattle.std.proofs.lemmas.Grind.{flat_map-append}
 use Rattle.std.proofs.lemmas.List.Folds.{flat_map-map}
 use Rattle.std.proofs.lemmas.List.Elements.{All-contains, Contains-get_or}
-use Rattle.component_index.specs.declared.pattern.Part.TheVariants.{Is, Any}
-use Rattle.component_index.specs.declared.pattern.Pattern.{Pattern}
-use Rattle.component_index.specs.Patterns.{matches}
+use Rattle.id_pattern.specs.declared.Part.TheVariants.{Is, Any}
+use Rattle.id_pattern.specs.declared.Pattern.{Pattern}
+use Rattle.id_pattern.specs.Patterns.{matches}
 use Rattle.ecs_id.specs.Id.{Id, plain, pair, id_cmp, id_eq, id_eq_itself, id_eq_same}
 use Rattle.ecs_model.specs.Cleanup.{deletes_sources, deletes_users, falling, falls_by}
 use Rattle.rel_travel.specs.Holders.{holders, holders_of_pair, sources_falling}

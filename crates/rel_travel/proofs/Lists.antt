@@ -5,8 +5,8 @@ use Rattle.std.specs.Prelude.{Some}
 use Rattle.std.proofs.lemmas.List.Elements.{All-contains}
 use Rattle.ecs_id.specs.Id.{Id}
 use Rattle.ecs_id.specs.declared.TableKey.{TableKey}
-use Rattle.component_index.specs.declared.pattern.Pattern.{Pattern}
-use Rattle.component_index.specs.declared.pattern.Part.TheVariants.{Is}
+use Rattle.id_pattern.specs.declared.Pattern.{Pattern}
+use Rattle.id_pattern.specs.declared.Part.TheVariants.{Is}
 use Rattle.ecs_model.specs.Links.{AreLinks, IsReached, is_reflexive, is_transitive, upward}
 use Rattle.ecs_model.proofs.LivePairs.{upward_below}
 use Rattle.ecs_model.proofs.ReachSteps.{turned_reach}

@@ -3,8 +3,8 @@ use Rattle.std.specs.Prelude.{ℕ, suc, zero, ◌+◌, ◌-◌, ◌&&◌, max, B
 use Rattle.std.specs.Option.{option_map_or}
 use Rattle.ecs_id.specs.Id.{Id}
 use Rattle.ecs_id.specs.declared.TableKey.{TableKey}
-use Rattle.component_index.specs.declared.pattern.Pattern.{Pattern}
-use Rattle.component_index.specs.declared.pattern.Part.TheVariants.{Is}
+use Rattle.id_pattern.specs.declared.Pattern.{Pattern}
+use Rattle.id_pattern.specs.declared.Part.TheVariants.{Is}
 use Rattle.ecs_model.specs.Links.{is_reflexive, is_transitive, upward}
 use Rattle.rel_travel.specs.Finds.{with_find}
 use Rattle.rel_travel.specs.Lists.{Work}

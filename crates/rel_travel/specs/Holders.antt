@@ -2,9 +2,9 @@
 use Rattle.std.specs.Prelude.{ℕ, List, filter, flat_map, Some}
 use Rattle.std.specs.List.{list_any}
 use Rattle.ecs_id.specs.Id.{Id}
-use Rattle.component_index.specs.declared.pattern.Pattern.{Pattern}
-use Rattle.component_index.specs.declared.pattern.Part.TheVariants.{Is}
-use Rattle.component_index.specs.Patterns.{matches}
+use Rattle.id_pattern.specs.declared.Pattern.{Pattern}
+use Rattle.id_pattern.specs.declared.Part.TheVariants.{Is}
+use Rattle.id_pattern.specs.Patterns.{matches}
 use Rattle.ecs_model.specs.BuiltIns.{on_delete_target, delete_mode}
 
 -- the live entities with an id that the pattern matches

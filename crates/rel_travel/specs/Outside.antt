@@ -1,8 +1,8 @@
 -- Those outside of some entities, by the patterns of ids that mention one of them.
 use Rattle.std.specs.Prelude.{ℕ, Bool, not, ◌&&◌, ◌||◌, List, ◌++◌, filter, Some, None}
 use Rattle.ecs_id.specs.Id.{Id, plain, pair}
-use Rattle.component_index.specs.declared.pattern.Pattern.{Pattern}
-use Rattle.component_index.specs.declared.pattern.Part.TheVariants.{Is, Any}
+use Rattle.id_pattern.specs.declared.Pattern.{Pattern}
+use Rattle.id_pattern.specs.declared.Part.TheVariants.{Is, Any}
 use Rattle.rel_travel.specs.Finds.{is_among}
 use Rattle.rel_travel.specs.Holders.{holders}
 use Rattle.ecs_model.specs.steps.Rules.{forbids_with_sources, forbids_with_users}

@@ -8,9 +8,9 @@ ghost use Rattle.ecs_model.specs.Reach.{Reached};
 use crate::found::Found;
 use crate::holders::{Holders, add_holders};
 use crate::work_list::{Rule, gather_found};
-use component_index::{Part, Pattern};
 use ecs_id::{EntityId, Id};
 use ecs_model::built_ins::{DELETE, ON_DELETE, ON_DELETE_TARGET};
+use id_pattern::{Part, Pattern};
 use std::alloc::Allocator;
 
 /// Finds the entity, and all entities that fall with it when it is deleted, each once.

@@ -8,15 +8,15 @@ ghost use Rattle.rel_travel.specs.Growing.{IsGrownBy};
 use crate::found::Found;
 use crate::graph::Graph;
 use crate::work_list::Rule;
-use component_index::{ListedKey, Part, Pattern};
-use ecs_id::EntityId;
+use ecs_id::{EntityId, ListedKey};
+use id_pattern::{Part, Pattern};
 use std::alloc::Allocator;
 
 /// A view of the tables of a world, by what their entities hold.
 pub trait Holders: Graph {
     ghost use Rattle.std.specs.Prelude.{List, ℕ};
     ghost use Rattle.ecs_id.specs.declared.TableKey.{TableKey as Key};
-    ghost use Rattle.component_index.specs.declared.pattern.Pattern.{Pattern as Asked};
+    ghost use Rattle.id_pattern.specs.declared.Pattern.{Pattern as Asked};
 
     /// The indexes of the entities in a table.
     ghost rows: { Self → Key → List ℕ };

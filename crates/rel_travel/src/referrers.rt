@@ -6,8 +6,8 @@ ghost use Rattle.rel_travel.specs.Referring.{referrers};
 
 use crate::found::Found;
 use crate::holders::Holders;
-use component_index::{Part, Pattern};
 use ecs_id::EntityId;
+use id_pattern::{Part, Pattern};
 use std::alloc::Allocator;
 
 /// Finds the entities outside of the members that hold an id which mentions one of them, each once.

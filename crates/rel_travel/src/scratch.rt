@@ -2,8 +2,8 @@
 ghost use Rattle.std.specs.Prelude.{◌≡◌, ◌==◌, ◌↔◌, ◌+◌, ◌≤◌, ◌<◌, ℕ, List, [], ◌∷◌, length, max, find, All, Contains};
 ghost use Rattle.std.specs.Prelude.{IsTrue, MatchOption, OnOk, OnErr};
 ghost use Rattle.std.specs.List.{list_any, IsDistinct};
-ghost use Rattle.component_index.specs.Patterns.{matches};
-ghost use Rattle.component_index.specs.declared.pattern.Pattern.{Pattern as Asked};
+ghost use Rattle.id_pattern.specs.Patterns.{matches};
+ghost use Rattle.id_pattern.specs.declared.Pattern.{Pattern as Asked};
 ghost use Rattle.ecs_id.specs.declared.TableKey.{TableKey};
 ghost use Rattle.ecs_model.specs.Cleanup.{falling};
 ghost use Rattle.ecs_model.specs.Links.{IsAcyclic, IsReached, ancestor_line, depth as depth_in, reaches as reaches_in};
@@ -29,7 +29,7 @@ use crate::path::Path;
 use crate::referrers::list_referrers;
 use crate::up_words::Known;
 use crate::work_list::{Rule, gather_found};
-use component_index::Pattern;
+use id_pattern::Pattern;
 use std::alloc::{AllocError, Allocator, Global};
 use std::marker::Model;
 
@@ -49,7 +49,6 @@ struct Listing {
 ///
 /// Room is made by `reserve` alone: the searches take no memory and can't fail. Each forgets what the one before it
 /// found, in time in what that was; the size of the graph costs no search anything.
-#[derive(Drop)]
 pub struct Scratch<A: Allocator = Global> {
     found: Found<A>,
     referring: Found<A>,
@@ -58,6 +57,19 @@ pub struct Scratch<A: Allocator = Global> {
     /// 0 between calls.
     words: Vec<u32, A>,
     list: Listing,
+}
+
+impl<A: Allocator> Drop for Scratch<A> {
+    #[inline(always)]
+    fn drop(self) {
+        let Self {
+            found: _,
+            referring: _,
+            path: _,
+            words: _,
+            list: _,
+        } = self;
+    }
 }
 
 impl<A: Allocator> Model for Scratch<A> {

@@ -11,7 +11,7 @@ use crate::holders::{Downward, Holders};
 use crate::scratch::{Scratch, reaches};
 use crate::spread::Spread;
 use crate::work_list::{Rule, go_on_until};
-use component_index::{Part, Pattern};
+use id_pattern::{Part, Pattern};
 use std::alloc::{AllocError, Allocator, Global};
 use std::marker::Model;
 
@@ -32,13 +32,24 @@ struct Pace {
 /// where that leads to no others; and from whom to the one that was asked last.
 ///
 /// Room is made by `reserve`; the other calls take no memory.
-#[derive(Drop)]
 pub struct Ways<A: Allocator = Global> {
     /// Whether the relationship is known to be transitive.
     is_transitive: bool,
     above: Spread<A>,
     below: Spread<A>,
     pace: Pace,
+}
+
+impl<A: Allocator> Drop for Ways<A> {
+    #[inline(always)]
+    fn drop(self) {
+        let Self {
+            is_transitive: _,
+            above: _,
+            below: _,
+            pace: _,
+        } = self;
+    }
 }
 
 impl<A: Allocator> Model for Ways<A> {

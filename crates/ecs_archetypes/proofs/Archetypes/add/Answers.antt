@@ -1,4 +1,5 @@
 -- The row moves to the table with the id.
+use Rattle.std.proofs.Common.{arith}
 use Rattle.std.proofs.Common.{◌∙◌, ◌∷◌, [], ap}
 use Rattle.entity_index.specs.Entities.{place_of}
 use Rattle.ecs_archetypes.specs.Housing.{holdings_of}
@@ -26,3 +27,36 @@ returns-in_err-to-clause-kept g c = last_room c.self.inside.entities c.self.insi
 pub returns-clause-kept : goal.returns-clause-kept
 returns-clause-kept g c = last_rows c.self.inside.entities c.self.inside.tables c.args.self.now c.self.view_is c.self.invariant ((c.args.id, c.args.size) ∷ []) c.wider.new.self c.wider.ensures.kept
     c.carry_alone-now.new.entities c.carry_alone-now.new.tables c.carry_alone-now.ensures.alike c.carry_alone-now.ensures.sound
+
+pub wider-requires-clause-small : goal.wider-requires-clause-small
+wider-requires-clause-small g c = grind arith
+
+pub wider-requires-clause-agree : goal.wider-requires-clause-agree
+wider-requires-clause-agree g c = grind arith
+
+pub invariant_of-self : goal.invariant_of-self
+invariant_of-self g c = grind arith
+
+pub returns-in_err-to-clause-placed : goal.returns-in_err-to-clause-placed
+returns-in_err-to-clause-placed g c = grind arith
+
+pub returns-in_err-to-clause-added : goal.returns-in_err-to-clause-added
+returns-in_err-to-clause-added g c = grind arith
+
+pub returns-in_err-to-clause-refused : goal.returns-in_err-to-clause-refused
+returns-in_err-to-clause-refused g c = grind arith
+
+pub carry_alone-now-requires-clause-sound : goal.carry_alone-now-requires-clause-sound
+carry_alone-now-requires-clause-sound g c = grind arith
+
+pub carry_alone-now-requires-clause-there : goal.carry_alone-now-requires-clause-there
+carry_alone-now-requires-clause-there g c = grind arith
+
+pub carry_alone-now-requires-clause-room : goal.carry_alone-now-requires-clause-room
+carry_alone-now-requires-clause-room g c = grind arith
+
+pub invariant_of-self-2 : goal.invariant_of-self-2
+invariant_of-self-2 g c = grind arith
+
+pub returns-clause-placed : goal.returns-clause-placed
+returns-clause-placed g c = grind arith

@@ -1,4 +1,5 @@
 -- The entity stands in a table, and the next one has room for its move and for all that were planned before.
+use Rattle.std.proofs.Common.{arith}
 use Rattle.std.proofs.Common.{◌≡◌, ◌≤◌, ◌+◌, ◌++◌, ◌∷◌, [], ◌∙◌, Some, ap, subst, sym}
 use Rattle.std.specs.Option.{is_some}
 use Rattle.table_store.specs.Store.{room_at, shape_at}
@@ -46,3 +47,36 @@ returns-in_err-push-clause-kept g c = record { grown = c.table_after.ensures.gro
 
 pub returns-clause-kept : goal.returns-clause-kept
 returns-clause-kept g c = record { grown = c.table_after.ensures.grown; held = c.table_after.ensures.held; sizes = c.table_after.ensures.sizes; whole = c.table_after.ensures.whole }
+
+pub table_after-requires-clause-settled : goal.table_after-requires-clause-settled
+table_after-requires-clause-settled g c = grind arith
+
+pub table_after-requires-clause-came_ascend : goal.table_after-requires-clause-came_ascend
+table_after-requires-clause-came_ascend g c = grind arith
+
+pub table_after-requires-clause-went_ascend : goal.table_after-requires-clause-went_ascend
+table_after-requires-clause-went_ascend g c = grind arith
+
+pub table_after-requires-clause-unheld : goal.table_after-requires-clause-unheld
+table_after-requires-clause-unheld g c = grind arith
+
+pub table_after-requires-clause-small : goal.table_after-requires-clause-small
+table_after-requires-clause-small g c = grind arith
+
+pub table_after-requires-clause-agree : goal.table_after-requires-clause-agree
+table_after-requires-clause-agree g c = grind arith
+
+pub returns-in_err-to-clause-planned : goal.returns-in_err-to-clause-planned
+returns-in_err-to-clause-planned g c = grind arith
+
+pub returns-in_err-to-clause-ready : goal.returns-in_err-to-clause-ready
+returns-in_err-to-clause-ready g c = grind arith
+
+pub returns-in_err-push-clause-planned : goal.returns-in_err-push-clause-planned
+returns-in_err-push-clause-planned g c = grind arith
+
+pub returns-in_err-push-clause-ready : goal.returns-in_err-push-clause-ready
+returns-in_err-push-clause-ready g c = grind arith
+
+pub returns-clause-planned : goal.returns-clause-planned
+returns-clause-planned g c = grind arith

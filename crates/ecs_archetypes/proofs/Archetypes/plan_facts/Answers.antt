@@ -1,4 +1,5 @@
 -- Each entity's move does what its facts ask, and leaves the others.
+use Rattle.std.proofs.Common.{arith}
 use Rattle.std.proofs.Common.{◌≤◌, ◌==◌, ◌∙◌, length, subst, sym}
 use Rattle.ecs_archetypes.specs.Housing.{IsHoused}
 use Rattle.ecs_archetypes.proofs.FactPlanning.{facts_planned, facts_planned_more, facts_planned_none, front_agrees, front_among, front_rises, front_small, front_unheld, these_rise}
@@ -63,3 +64,21 @@ returns-clause-planned g c = facts_planned c.args.self.now c.loop-entity.self c.
 
 pub returns-clause-kept : goal.returns-clause-kept
 returns-clause-kept g c = record { grown = c.loop-entity.invariant.grown; held = c.loop-entity.invariant.held; sizes = c.loop-entity.invariant.sizes; whole = c.loop-entity.invariant.whole }
+
+pub plan_entity-requires-clause-ready : goal.plan_entity-requires-clause-ready
+plan_entity-requires-clause-ready g c = grind arith
+
+pub plan_entity-requires-clause-settled : goal.plan_entity-requires-clause-settled
+plan_entity-requires-clause-settled g c = grind arith
+
+pub returns-in_err-plan_entity-clause-planned : goal.returns-in_err-plan_entity-clause-planned
+returns-in_err-plan_entity-clause-planned g c = grind arith
+
+pub returns-in_err-plan_entity-clause-ready : goal.returns-in_err-plan_entity-clause-ready
+returns-in_err-plan_entity-clause-ready g c = grind arith
+
+pub loop-entity-smaller : goal.loop-entity-smaller
+loop-entity-smaller g c = grind arith
+
+pub returns-clause-ready : goal.returns-clause-ready
+returns-clause-ready g c = grind arith

@@ -2,7 +2,7 @@
 use Rattle.ecs_archetypes.proofs.Soundness.{sound_same}
 use Rattle.std.proofs.Common.{subst}
 use Rattle.std.specs.List.{list_any}
-use Rattle.component_index.specs.Patterns.{matches}
+use Rattle.id_pattern.specs.Patterns.{matches}
 use Rattle.ecs_archetypes.specs.Staying.{TablesStay}
 use Rattle.ecs_archetypes.proofs.StandingTables.{stay_apart}
 use Rattle.ecs_archetypes.proofs.Archetypes.release_matched.Goals as goal

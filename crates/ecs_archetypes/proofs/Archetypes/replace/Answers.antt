@@ -1,4 +1,5 @@
 -- The row moves to the table with the one id and without the other.
+use Rattle.std.proofs.Common.{arith}
 use Rattle.std.proofs.Common.{◌≡◌, ◌∙◌, ◌∷◌, [], ℕ, Some, ap, subst}
 use Rattle.ecs_model.specs.World.{Key}
 use Rattle.table_store.specs.Rows.{shape_of_cells}
@@ -53,3 +54,39 @@ returns-clause-kept g c =
     let sizes = subst (λ (x : Key × ℕ). KeepsSizes (known_in c.args.self.now.tables) ((x.0.1, x.1) ∷ []) (known_in c.table_after.new.self.tables)) came c.table_after.ensures.sizes in
     let made : HasRoomMade ((c.args.id, c.args.size) ∷ []) c.args.self.now c.table_after.new.self = record { grown = c.table_after.ensures.grown; held = c.table_after.ensures.held; sizes = sizes; whole = c.table_after.ensures.whole } in
     last_moved _ _ _ _ made c.carry_to.ensures.alike c.carry_to.ensures.whole
+
+pub shared_whole_as_slice-table_after : goal.shared_whole_as_slice-table_after
+shared_whole_as_slice-table_after g c = grind arith
+
+pub shared_whole_as_slice-table_after-2 : goal.shared_whole_as_slice-table_after-2
+shared_whole_as_slice-table_after-2 g c = grind arith
+
+pub table_after-requires-clause-came_ascend : goal.table_after-requires-clause-came_ascend
+table_after-requires-clause-came_ascend g c = grind arith
+
+pub table_after-requires-clause-unheld : goal.table_after-requires-clause-unheld
+table_after-requires-clause-unheld g c = grind arith
+
+pub table_after-requires-clause-small : goal.table_after-requires-clause-small
+table_after-requires-clause-small g c = grind arith
+
+pub table_after-requires-clause-agree : goal.table_after-requires-clause-agree
+table_after-requires-clause-agree g c = grind arith
+
+pub returns-in_err-to-clause-placed : goal.returns-in_err-to-clause-placed
+returns-in_err-to-clause-placed g c = grind arith
+
+pub returns-in_err-to-clause-replaced : goal.returns-in_err-to-clause-replaced
+returns-in_err-to-clause-replaced g c = grind arith
+
+pub returns-in_err-to-clause-refused : goal.returns-in_err-to-clause-refused
+returns-in_err-to-clause-refused g c = grind arith
+
+pub carry_to-requires-clause-there : goal.carry_to-requires-clause-there
+carry_to-requires-clause-there g c = grind arith
+
+pub carry_to-requires-clause-room : goal.carry_to-requires-clause-room
+carry_to-requires-clause-room g c = grind arith
+
+pub returns-clause-placed : goal.returns-clause-placed
+returns-clause-placed g c = grind arith

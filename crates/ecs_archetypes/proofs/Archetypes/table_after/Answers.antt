@@ -1,4 +1,6 @@
 -- One fact follows an edge, and more of them make a list of ids.
+use Rattle.std.proofs.Common.{arith}
+use Rattle.std.proofs.lemmas.Grind.{common_steps}
 use Rattle.std.proofs.Common.{◌≡◌, ◌∙◌, Some, ap, length, subst, sym}
 use Rattle.std.proofs.lemmas.Bool.Decides.{Decides-eqb}
 use Rattle.std.proofs.lemmas.List.{nil_from_length}
@@ -46,3 +48,123 @@ pub returns-clause-sizes : goal.returns-clause-sizes
 returns-clause-sizes g c = ids_kept c.args.self.now (subst IsHoused c.self.view_is c.self.invariant) c.args.entity c.unwrap-facts.result c.requires.settled (sym c.facts.ensures ∙ c.unwrap-facts.ensures)
     c.args.from c.requires.there c.args.came.now (is_among (ids_among c.args.went.now)) c.as_slice.result.now (c.as_slice.ensures.value ∙ c.in_ok-merge_ids.ensures)
     c.prepare.new.self.tables c.prepare.ensures.kept.sizes
+
+pub bounds-came-0 : goal.bounds-came-0
+bounds-came-0 g c = grind arith
+
+pub bounds-came-0-then-came-eq1 : goal.bounds-came-0-then-came-eq1
+bounds-came-0-then-came-eq1 g c = grind arith
+
+pub wider_beside-requires-clause-stands : goal.wider_beside-requires-clause-stands
+wider_beside-requires-clause-stands g c = grind arith
+
+pub wider_beside-requires-clause-small : goal.wider_beside-requires-clause-small
+wider_beside-requires-clause-small g c = grind (arith, common_steps)
+
+pub wider_beside-requires-clause-agree : goal.wider_beside-requires-clause-agree
+wider_beside-requires-clause-agree g c = grind (arith, common_steps)
+
+pub returns-then-came-eq1-clause-room : goal.returns-then-came-eq1-clause-room
+returns-then-came-eq1-clause-room g c = grind arith
+
+pub returns-then-came-eq1-clause-moves : goal.returns-then-came-eq1-clause-moves
+returns-then-came-eq1-clause-moves g c = grind arith
+
+pub returns-then-came-eq1-clause-entities : goal.returns-then-came-eq1-clause-entities
+returns-then-came-eq1-clause-entities g c = grind arith
+
+pub returns-then-came-eq1-clause-grown : goal.returns-then-came-eq1-clause-grown
+returns-then-came-eq1-clause-grown g c = grind arith
+
+pub returns-then-came-eq1-clause-held : goal.returns-then-came-eq1-clause-held
+returns-then-came-eq1-clause-held g c = grind arith
+
+pub returns-then-came-eq1-clause-sizes : goal.returns-then-came-eq1-clause-sizes
+returns-then-came-eq1-clause-sizes g c = grind (arith, common_steps)
+
+pub returns-then-came-eq1-clause-whole : goal.returns-then-came-eq1-clause-whole
+returns-then-came-eq1-clause-whole g c = grind arith
+
+pub bounds-went-0 : goal.bounds-went-0
+bounds-went-0 g c = grind arith
+
+pub narrower_beside-requires : goal.narrower_beside-requires
+narrower_beside-requires g c = grind arith
+
+pub returns-then-went-eq1-clause-room : goal.returns-then-went-eq1-clause-room
+returns-then-went-eq1-clause-room g c = grind arith
+
+pub returns-then-went-eq1-clause-moves : goal.returns-then-went-eq1-clause-moves
+returns-then-went-eq1-clause-moves g c = grind arith
+
+pub returns-then-went-eq1-clause-entities : goal.returns-then-went-eq1-clause-entities
+returns-then-went-eq1-clause-entities g c = grind arith
+
+pub returns-then-went-eq1-clause-grown : goal.returns-then-went-eq1-clause-grown
+returns-then-went-eq1-clause-grown g c = grind arith
+
+pub returns-then-went-eq1-clause-held : goal.returns-then-went-eq1-clause-held
+returns-then-went-eq1-clause-held g c = grind arith
+
+pub returns-then-went-eq1-clause-sizes : goal.returns-then-went-eq1-clause-sizes
+returns-then-went-eq1-clause-sizes g c = grind arith
+
+pub returns-then-went-eq1-clause-whole : goal.returns-then-went-eq1-clause-whole
+returns-then-went-eq1-clause-whole g c = grind arith
+
+pub unwrap-facts-requires : goal.unwrap-facts-requires
+unwrap-facts-requires g c = grind arith
+
+pub merge_ids-requires-clause-came_ascend : goal.merge_ids-requires-clause-came_ascend
+merge_ids-requires-clause-came_ascend g c = grind arith
+
+pub merge_ids-requires-clause-went_ascend : goal.merge_ids-requires-clause-went_ascend
+merge_ids-requires-clause-went_ascend g c = grind arith
+
+pub merge_ids-requires-clause-unheld : goal.merge_ids-requires-clause-unheld
+merge_ids-requires-clause-unheld g c = grind arith
+
+pub returns-in_err-merge_ids-clause-shape : goal.returns-in_err-merge_ids-clause-shape
+returns-in_err-merge_ids-clause-shape g c = grind arith
+
+pub returns-in_err-merge_ids-clause-room : goal.returns-in_err-merge_ids-clause-room
+returns-in_err-merge_ids-clause-room g c = grind arith
+
+pub returns-in_err-merge_ids-clause-moves : goal.returns-in_err-merge_ids-clause-moves
+returns-in_err-merge_ids-clause-moves g c = grind arith
+
+pub returns-in_err-merge_ids-clause-entities : goal.returns-in_err-merge_ids-clause-entities
+returns-in_err-merge_ids-clause-entities g c = grind arith
+
+pub returns-in_err-merge_ids-clause-grown : goal.returns-in_err-merge_ids-clause-grown
+returns-in_err-merge_ids-clause-grown g c = grind arith
+
+pub returns-in_err-merge_ids-clause-held : goal.returns-in_err-merge_ids-clause-held
+returns-in_err-merge_ids-clause-held g c = grind arith
+
+pub returns-in_err-merge_ids-clause-sizes : goal.returns-in_err-merge_ids-clause-sizes
+returns-in_err-merge_ids-clause-sizes g c = grind arith
+
+pub returns-in_err-merge_ids-clause-whole : goal.returns-in_err-merge_ids-clause-whole
+returns-in_err-merge_ids-clause-whole g c = grind arith
+
+pub returns-clause-shape : goal.returns-clause-shape
+returns-clause-shape g c = grind arith
+
+pub returns-clause-room : goal.returns-clause-room
+returns-clause-room g c = grind arith
+
+pub returns-clause-moves : goal.returns-clause-moves
+returns-clause-moves g c = grind arith
+
+pub returns-clause-entities : goal.returns-clause-entities
+returns-clause-entities g c = grind arith
+
+pub returns-clause-grown : goal.returns-clause-grown
+returns-clause-grown g c = grind arith
+
+pub returns-clause-held : goal.returns-clause-held
+returns-clause-held g c = grind arith
+
+pub returns-clause-whole : goal.returns-clause-whole
+returns-clause-whole g c = grind arith

@@ -1,4 +1,5 @@
 -- Each step takes the least id of those that come, go and are held.
+use Rattle.std.proofs.lemmas.Grind.{common_steps}
 use Rattle.std.proofs.Common.{◌<◌, ◌≤◌, ◌++◌, ◌∷◌, [], ◌∙◌, length, arith, sym, ap}
 use Rattle.ecs_archetypes.proofs.MergedIds.{merged_coming, merged_going, merged_ok, merged_staying, merged_unheld}
 use Rattle.ecs_archetypes.proofs.fact_plan.merge_ids.Goals.{then-not-goes_first+in_ok-push_id, else-not-goes_first}
@@ -26,3 +27,33 @@ pub returns : goal.returns
 returns g c =
     let end : length c.args.facts.now ≤ c.loop-place.place = let e = c.len.ensures in omega (arith, e, c.loop-place-test.false) in
     merged_ok c.args.facts.now c.args.came.now c.args.went.now c.args.facts.now c.loop-place.place c.loop-place.ids.items c.loop-place.came.now c.loop-place.went.now c.loop-place.invariant end c.push_coming-2.result c.push_coming-2.new.ids.items c.push_coming-2.ensures
+
+pub loop-place-init : goal.loop-place-init
+loop-place-init g c = grind arith
+
+pub at-id-requires : goal.at-id-requires
+at-id-requires g c = grind arith
+
+pub split_at-requires : goal.split_at-requires
+split_at-requires g c = grind (arith, common_steps)
+
+pub returns-in_err-push_coming : goal.returns-in_err-push_coming
+returns-in_err-push_coming g c = grind arith
+
+pub loop-place-smaller-then-comes_before : goal.loop-place-smaller-then-comes_before
+loop-place-smaller-then-comes_before g c = grind arith
+
+pub split_at-requires-then-goes_before : goal.split_at-requires-then-goes_before
+split_at-requires-then-goes_before g c = grind (arith, common_steps)
+
+pub loop-place-smaller-then-goes_before : goal.loop-place-smaller-then-goes_before
+loop-place-smaller-then-goes_before g c = grind arith
+
+pub returns-in_err-push_id : goal.returns-in_err-push_id
+returns-in_err-push_id g c = grind arith
+
+pub overflow_add-place : goal.overflow_add-place
+overflow_add-place g c = grind arith
+
+pub loop-place-smaller : goal.loop-place-smaller
+loop-place-smaller g c = grind arith

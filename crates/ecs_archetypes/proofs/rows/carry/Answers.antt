@@ -1,4 +1,5 @@
 -- The row moves, the last row fills its gap, and the index is given both places.
+use Rattle.std.proofs.Common.{arith}
 use Rattle.std.proofs.Common.{◌≡◌, ◌∙◌, ◌<◌, None, ap, option_map, rules, subst, sym, true}
 use Rattle.entity_index.specs.Entities.{is_alive}
 use Rattle.table_store.specs.Rows.{filler}
@@ -107,3 +108,18 @@ invariant_of-tables g c = entered_alike c.tables.inside.store c.move_row-row.new
 
 pub invariant_of-tables-2 : goal.invariant_of-tables-2
 invariant_of-tables-2 g c = entered_alike c.tables.inside.store c.move_row-row.new.self c.tables.inside.index c.move_row-row.ensures.shapes c.tables.invariant
+
+pub move_row-row-requires-clause-apart : goal.move_row-row-requires-clause-apart
+move_row-row-requires-clause-apart g c = grind arith
+
+pub move_row-row-requires-clause-room : goal.move_row-row-requires-clause-room
+move_row-row-requires-clause-room g c = grind arith
+
+pub set_place-requires : goal.set_place-requires
+set_place-requires g c = grind arith
+
+pub returns-in_default-clause-alike : goal.returns-in_default-clause-alike
+returns-in_default-clause-alike g c = grind arith
+
+pub returns-clause-alike : goal.returns-clause-alike
+returns-clause-alike g c = grind arith

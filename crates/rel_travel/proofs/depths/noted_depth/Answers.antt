@@ -177,3 +177,78 @@ loop-step-preserved g c =
       noted = λ none. subst (λ xs. IsNotedOf xs (set words step.index word)) (sym c.add.ensures.items) (noted_of_more words c.loop-step.found.items step.index word (c.loop-step.invariant.noted none));
       listed = subst (λ xs. (i : ℕ) → Contains xs i → i < g.G.Graph.size c.args.graph.now) (sym c.add.ensures.items) (below_more (g.G.Graph.size c.args.graph.now) c.loop-step.found.items step.index low c.loop-step.invariant.listed);
     }
+
+pub offset_bounds-known-index : goal.offset_bounds-known-index
+offset_bounds-known-index g c = grind arith
+
+pub bounds-known-index : goal.bounds-known-index
+bounds-known-index g c = grind arith
+
+pub bounds-known-index-then-known-index-ne0 : goal.bounds-known-index-then-known-index-ne0
+bounds-known-index-then-known-index-ne0 g c = grind arith
+
+pub overflow_sub-result : goal.overflow_sub-result
+overflow_sub-result g c = grind arith
+
+pub returns-then-known-index-ne0-clause-size : goal.returns-then-known-index-ne0-clause-size
+returns-then-known-index-ne0-clause-size g c = grind arith
+
+pub returns-then-known-index-ne0-clause-room : goal.returns-then-known-index-ne0-clause-room
+returns-then-known-index-ne0-clause-room g c = grind arith
+
+pub returns-then-known-index-ne0-clause-length : goal.returns-then-known-index-ne0-clause-length
+returns-then-known-index-ne0-clause-length g c = grind arith
+
+pub returns-then-known-index-ne0-clause-known : goal.returns-then-known-index-ne0-clause-known
+returns-then-known-index-ne0-clause-known g c = grind arith
+
+pub returns-then-known-index-ne0-clause-noted : goal.returns-then-known-index-ne0-clause-noted
+returns-then-known-index-ne0-clause-noted g c = grind arith
+
+pub returns-then-known-index-ne0-clause-listed : goal.returns-then-known-index-ne0-clause-listed
+returns-then-known-index-ne0-clause-listed g c = grind arith
+
+pub returns-then-known-index-ne0-clause-depth : goal.returns-then-known-index-ne0-clause-depth
+returns-then-known-index-ne0-clause-depth g c = grind arith
+
+pub push-requires : goal.push-requires
+push-requires g c = grind arith
+
+pub loop-step-init : goal.loop-step-init
+loop-step-init g c = grind arith
+
+pub overflow_cast-known : goal.overflow_cast-known
+overflow_cast-known g c = grind arith
+
+pub offset_bounds-known-step : goal.offset_bounds-known-step
+offset_bounds-known-step g c = grind arith
+
+pub offset_bounds-known-index-2 : goal.offset_bounds-known-index-2
+offset_bounds-known-index-2 g c = grind arith
+
+pub bounds-known-index-2 : goal.bounds-known-index-2
+bounds-known-index-2 g c = grind arith
+
+pub overflow_sub-result-2 : goal.overflow_sub-result-2
+overflow_sub-result-2 g c = grind arith
+
+pub returns-clause-size : goal.returns-clause-size
+returns-clause-size g c = grind arith
+
+pub returns-clause-room : goal.returns-clause-room
+returns-clause-room g c = grind arith
+
+pub returns-clause-length : goal.returns-clause-length
+returns-clause-length g c = grind arith
+
+pub returns-clause-known : goal.returns-clause-known
+returns-clause-known g c = grind arith
+
+pub returns-clause-noted : goal.returns-clause-noted
+returns-clause-noted g c = grind arith
+
+pub returns-clause-listed : goal.returns-clause-listed
+returns-clause-listed g c = grind arith
+
+pub returns-clause-depth : goal.returns-clause-depth
+returns-clause-depth g c = grind arith

@@ -1,7 +1,8 @@
+use Rattle.std.proofs.lemmas.Grind.{common_steps}
 use Rattle.std.proofs.Common.{ℕ, ◌≡◌, ◌<◌, [], ◌∷◌, ◌++◌, Some, false, length, get_or, find, sym, ap, subst, ◌∙◌, refl, arith}
 use Rattle.std.proofs.lemmas.List.{length-append}
 use Rattle.rel_travel.specs.Finds.{is_among}
-use Rattle.component_index.specs.Patterns.{matches}
+use Rattle.id_pattern.specs.Patterns.{matches}
 use Rattle.std.specs.List.{list_any}
 use Rattle.rel_travel.specs.LineSteps.{IsMet}
 use Rattle.rel_travel.specs.UpWords.{AllFind}
@@ -207,3 +208,54 @@ add-requires-in-Missed g c =
     let there : c.index-ids-step.result ≡ get_or (ids step.index) step.place c.index-ids-step.result = rw (← c.ids-ids.ensures) c.index-ids-step.is in
     let below = next_below c.size.ensures.links c.args.relationship c.args.found.now.size c.requires.covered step.index step.place c.in-Some-target_under.target c.index-ids-step.result l there (sym c.in-Some-target_under.ensures) in
     omega (arith, below, c.loop-step.invariant.size, ap (λ f. f.size) c.clear.ensures)
+
+pub push-requires : goal.push-requires
+push-requires g c = grind arith
+
+pub overflow_add-step : goal.overflow_add-step
+overflow_add-step g c = grind arith
+
+pub push-requires-then-step-ids : goal.push-requires-then-step-ids
+push-requires-then-step-ids g c = grind arith
+
+pub offset_bounds-ids-step : goal.offset_bounds-ids-step
+offset_bounds-ids-step g c = grind arith
+
+pub bounds-ids-step : goal.bounds-ids-step
+bounds-ids-step g c = grind arith
+
+pub returns-in-Found-clause-size : goal.returns-in-Found-clause-size
+returns-in-Found-clause-size g c = grind arith
+
+pub returns-in-Found-clause-room : goal.returns-in-Found-clause-room
+returns-in-Found-clause-room g c = grind arith
+
+pub loop-step-smaller-in-Nothing : goal.loop-step-smaller-in-Nothing
+loop-step-smaller-in-Nothing g c = grind (arith, common_steps)
+
+pub push-requires-in-Missed : goal.push-requires-in-Missed
+push-requires-in-Missed g c = grind (arith, common_steps)
+
+pub loop-step-smaller-in-Missed : goal.loop-step-smaller-in-Missed
+loop-step-smaller-in-Missed g c = grind (arith, common_steps)
+
+pub loop-step-smaller-else-not-is_found : goal.loop-step-smaller-else-not-is_found
+loop-step-smaller-else-not-is_found g c = grind (arith, common_steps)
+
+pub loop-step-smaller-in_default-target_under : goal.loop-step-smaller-in_default-target_under
+loop-step-smaller-in_default-target_under g c = grind (arith, common_steps)
+
+pub loop-step-smaller : goal.loop-step-smaller
+loop-step-smaller g c = grind (arith, common_steps)
+
+pub returns-clause-size : goal.returns-clause-size
+returns-clause-size g c = grind arith
+
+pub returns-clause-room : goal.returns-clause-room
+returns-clause-room g c = grind arith
+
+pub returns-clause-first : goal.returns-clause-first
+returns-clause-first g c = grind arith
+
+pub returns-clause-known : goal.returns-clause-known
+returns-clause-known g c = grind arith

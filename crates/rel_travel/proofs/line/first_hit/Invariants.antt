@@ -1,6 +1,6 @@
 use Rattle.std.proofs.Common.{◌≡◌, ◌+◌, ◌-◌, ◌*◌, ◌^◌, ◌≤◌, ◌∷◌, length, find}
 use Rattle.std.specs.List.{sum_by}
-use Rattle.component_index.specs.Patterns.{matches}
+use Rattle.id_pattern.specs.Patterns.{matches}
 use Rattle.std.specs.List.{list_any}
 use Rattle.ecs_model.specs.Links.{ancestor_line}
 use Rattle.rel_travel.specs.UpWords.{AreKnown}

@@ -1,5 +1,5 @@
 use Rattle.std.proofs.Common.{Some, None}
-use Rattle.component_index.specs.declared.pattern.Part.TheVariants.{Is, Any}
+use Rattle.id_pattern.specs.declared.Part.TheVariants.{Is, Any}
 use Rattle.rel_travel.specs.Outside.{outside_holders}
 use Rattle.rel_travel.proofs.Growth.{IsGrownBy-then}
 use Rattle.std.proofs.Common.{◌++◌}

@@ -1,3 +1,4 @@
+use Rattle.std.proofs.lemmas.Grind.{common_steps}
 use Rattle.std.proofs.Common.{◌≡◌, ◌≤◌, ◌-◌, length, refl, sym, subst, arith}
 use Rattle.rel_travel.specs.Coming.{after_turn, brought}
 use Rattle.rel_travel.specs.Lists.{IsListing, Work, steps}
@@ -66,3 +67,42 @@ returns-else-list-clause-given g c listing =
     let P : Work → Type 0 = λ w. IsListing entities ids w in
     let turn : IsTurn old.goes_on (steps entities ids old.is_upward old.relationship) c.at-entity.result old.found old.found = rw c.if-list.false refl in
     rw (← c.scratch.view_is) (is_given entities ids old s.found.size old.found c.at-entity.result (omega (arith, c.len.ensures.count)) c.at-entity.ensures c.len.ensures.once turn (subst P (sym c.scratch.view_is) listing))
+
+pub returns-then-len-list-clause-size : goal.returns-then-len-list-clause-size
+returns-then-len-list-clause-size g c = grind arith
+
+pub returns-then-len-list-clause-begun : goal.returns-then-len-list-clause-begun
+returns-then-len-list-clause-begun g c = grind arith
+
+pub returns-then-len-list-clause-fits : goal.returns-then-len-list-clause-fits
+returns-then-len-list-clause-fits g c = grind (arith, common_steps)
+
+pub at-entity-requires : goal.at-entity-requires
+at-entity-requires g c = grind arith
+
+pub overflow_add-scratch : goal.overflow_add-scratch
+overflow_add-scratch g c = grind arith
+
+pub follow-requires : goal.follow-requires
+follow-requires g c = grind arith
+
+pub invariant_of-scratch : goal.invariant_of-scratch
+invariant_of-scratch g c = grind arith
+
+pub invariant_of-scratch-else-list : goal.invariant_of-scratch-else-list
+invariant_of-scratch-else-list g c = grind arith
+
+pub returns-then-list-clause-size : goal.returns-then-list-clause-size
+returns-then-list-clause-size g c = grind arith
+
+pub returns-then-list-clause-fits : goal.returns-then-list-clause-fits
+returns-then-list-clause-fits g c = grind (arith, common_steps)
+
+pub returns-else-list-clause-size : goal.returns-else-list-clause-size
+returns-else-list-clause-size g c = grind arith
+
+pub returns-else-list-clause-begun : goal.returns-else-list-clause-begun
+returns-else-list-clause-begun g c = grind arith
+
+pub returns-else-list-clause-fits : goal.returns-else-list-clause-fits
+returns-else-list-clause-fits g c = grind (arith, common_steps)

@@ -53,3 +53,57 @@ returns-else-leads-clause-answer g c =
     let s = c.seek.new.self in
     let for = c.seek.ensures.sought up c.requires.above in
     reached_told up c.args.source c.args.target s.is_alone s.found.items s.done for c.go_on_until-leads.result (c.go_on_until-leads.ensures.reached (c.args.source ∷ (for.0).left) (for.0).followed)
+
+pub tells-requires : goal.tells-requires
+tells-requires g c = grind arith
+
+pub returns-in-Some-clause-above_size : goal.returns-in-Some-clause-above_size
+returns-in-Some-clause-above_size g c = grind arith
+
+pub returns-in-Some-clause-below_size : goal.returns-in-Some-clause-below_size
+returns-in-Some-clause-below_size g c = grind arith
+
+pub returns-in-Some-clause-above : goal.returns-in-Some-clause-above
+returns-in-Some-clause-above g c = grind arith
+
+pub returns-in-Some-clause-below : goal.returns-in-Some-clause-below
+returns-in-Some-clause-below g c = grind arith
+
+pub seek-requires-clause-start : goal.seek-requires-clause-start
+seek-requires-clause-start g c = grind arith
+
+pub seek-requires-clause-index : goal.seek-requires-clause-index
+seek-requires-clause-index g c = grind arith
+
+pub go_on_until-leads-requires-clause-inside : goal.go_on_until-leads-requires-clause-inside
+go_on_until-leads-requires-clause-inside g c = grind arith
+
+pub overflow_sub-above : goal.overflow_sub-above
+overflow_sub-above g c = grind arith
+
+pub go_on_below-requires-clause-covered : goal.go_on_below-requires-clause-covered
+go_on_below-requires-clause-covered g c = grind arith
+
+pub go_on_below-requires-clause-target : goal.go_on_below-requires-clause-target
+go_on_below-requires-clause-target g c = grind arith
+
+pub go_on_below-requires-clause-sought : goal.go_on_below-requires-clause-sought
+go_on_below-requires-clause-sought g c = grind arith
+
+pub returns-then-leads-clause-above_size : goal.returns-then-leads-clause-above_size
+returns-then-leads-clause-above_size g c = grind arith
+
+pub returns-then-leads-clause-below_size : goal.returns-then-leads-clause-below_size
+returns-then-leads-clause-below_size g c = grind arith
+
+pub returns-then-leads-clause-below : goal.returns-then-leads-clause-below
+returns-then-leads-clause-below g c = grind arith
+
+pub returns-else-leads-clause-above_size : goal.returns-else-leads-clause-above_size
+returns-else-leads-clause-above_size g c = grind arith
+
+pub returns-else-leads-clause-below_size : goal.returns-else-leads-clause-below_size
+returns-else-leads-clause-below_size g c = grind arith
+
+pub returns-else-leads-clause-below : goal.returns-else-leads-clause-below
+returns-else-leads-clause-below g c = grind arith

@@ -1,5 +1,5 @@
 use Rattle.std.proofs.Common.{ap, ◌∙◌}
-use Rattle.component_index.proofs.ListedLemmas.{on_err}
+use Rattle.id_pattern.proofs.Errors.{on_err}
 use Rattle.rel_traits.specs.PinCounts.{counts_of}
 use Rattle.rel_traits.proofs.pin_counts.PinCounts.cover.Goals as goal
 

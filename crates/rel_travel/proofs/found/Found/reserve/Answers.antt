@@ -37,3 +37,45 @@ invariant_of-self-then-self-size g c =
     c.add_blank.ensures ∙ ap (λ ws. ws ++ replicate (c.div_ceil-words.result - vec_len words) 0) c.reserve-then-self-size.ensures.items ∙ ap (λ n. s.words.items ++ replicate n 0) missing in
     let room : c.args.size ≤ vec_capacity c.reserve.new.self = omega (arith, fit, c.len.ensures, c.if-self-size.true, c.in_ok-reserve.ensures.ok) in
     (rw (grown, c.reserve.ensures.items) wider, room)
+
+pub overflow_cast-div_ceil : goal.overflow_cast-div_ceil
+overflow_cast-div_ceil g c = grind arith
+
+pub div_ceil-words-requires : goal.div_ceil-words-requires
+div_ceil-words-requires g c = grind arith
+
+pub invariant_of-self : goal.invariant_of-self
+invariant_of-self g c = grind arith
+
+pub returns-in_err-reserve-clause-items : goal.returns-in_err-reserve-clause-items
+returns-in_err-reserve-clause-items g c = grind arith
+
+pub returns-in_err-reserve-clause-ok : goal.returns-in_err-reserve-clause-ok
+returns-in_err-reserve-clause-ok g c = grind arith
+
+pub returns-in_err-reserve-clause-err : goal.returns-in_err-reserve-clause-err
+returns-in_err-reserve-clause-err g c = grind arith
+
+pub invariant_of-self-in_err-reserve-2 : goal.invariant_of-self-in_err-reserve-2
+invariant_of-self-in_err-reserve-2 g c = grind arith
+
+pub returns-in_err-reserve-2-clause-items : goal.returns-in_err-reserve-2-clause-items
+returns-in_err-reserve-2-clause-items g c = grind arith
+
+pub returns-in_err-reserve-2-clause-ok : goal.returns-in_err-reserve-2-clause-ok
+returns-in_err-reserve-2-clause-ok g c = grind arith
+
+pub returns-in_err-reserve-2-clause-err : goal.returns-in_err-reserve-2-clause-err
+returns-in_err-reserve-2-clause-err g c = grind arith
+
+pub returns-in_ok-reserve-2-clause-items : goal.returns-in_ok-reserve-2-clause-items
+returns-in_ok-reserve-2-clause-items g c = grind arith
+
+pub returns-in_ok-reserve-2-clause-ok : goal.returns-in_ok-reserve-2-clause-ok
+returns-in_ok-reserve-2-clause-ok g c = grind arith
+
+pub returns-else-self-size-clause-items : goal.returns-else-self-size-clause-items
+returns-else-self-size-clause-items g c = grind arith
+
+pub returns-else-self-size-clause-ok : goal.returns-else-self-size-clause-ok
+returns-else-self-size-clause-ok g c = grind arith
