@@ -13,7 +13,7 @@ use query_model::syntax::{Flags, Part, Reference, Rise, RiseWord, TermSyntax};
 use std::alloc::{AllocError, Allocator};
 
 /// A term with `cascade`.
-#[derive(Clone, Copy, Debug, PartialEq, Eq)]
+#[derive(Clone, Copy)]
 pub(crate) struct Cascading<'a> {
     /// In how many levels besides the whole query it stands.
     pub(crate) levels: usize,

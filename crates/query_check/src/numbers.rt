@@ -17,7 +17,7 @@ use query_model::syntax::Part;
 use std::alloc::{AllocError, Allocator};
 
 /// A variable: its name, and the level to which it belongs.
-#[derive(Clone, Copy, Debug, PartialEq, Eq)]
+#[derive(Clone, Copy)]
 pub(crate) struct Variable<'a> {
     pub(crate) name: &'a [u8],
     pub(crate) level: usize,

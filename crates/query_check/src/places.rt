@@ -11,7 +11,7 @@ use std::alloc::{AllocError, Allocator};
 /// Where a part stands: in which level, which level is around that one, and in how many levels besides the whole query.
 ///
 /// A level goes by the number of the part that begins it, counted from 1, and the whole query by 0.
-#[derive(Clone, Copy, Debug, PartialEq, Eq)]
+#[derive(Clone, Copy)]
 pub(crate) struct PartPlace {
     pub(crate) level: usize,
     pub(crate) outer: usize,

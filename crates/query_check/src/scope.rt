@@ -19,7 +19,7 @@ use std::alloc::{AllocError, Allocator};
 pub(crate) const THIS: &[u8] = b"this";
 
 /// A variable where it stands, and the level in which that is.
-#[derive(Clone, Copy, Debug, PartialEq, Eq)]
+#[derive(Clone, Copy)]
 pub(crate) struct Occurrence<'a> {
     pub(crate) name: &'a [u8],
     pub(crate) level: usize,

@@ -16,7 +16,7 @@ use query_model::syntax::{Flags, Part, Reference, Rise, Spoken, TermSyntax};
 use std::alloc::{AllocError, Allocator};
 
 /// A reference, what it is to its part, the level in which it stands, and the entity that it names, if it names one.
-#[derive(Clone, Copy, Debug, PartialEq, Eq)]
+#[derive(Clone, Copy)]
 pub(crate) struct Use<'a> {
     pub(crate) level: usize,
     pub(crate) position: Position,

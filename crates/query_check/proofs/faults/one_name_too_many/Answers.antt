@@ -1,4 +1,5 @@
 -- One more occurrence at each turn.
+use Rattle.std.proofs.lemmas.Grind.{common_steps}
 use Rattle.std.proofs.Common.{◌≡◌, ◌<◌, ◌∙◌, [], ap, sym, get_or, length, map, List, ℕ, Bor, arith, subst}
 use Rattle.std.proofs.lemmas.List.{length-map, get_or-map}
 use Rattle.std.specs.Prelude.{bytes_eq, ◌+◌}
@@ -42,3 +43,18 @@ loop-occurrence-preserved g c =
           subst P (ap names (sym (ap (λ v. v.items) w.seen-is)))
           (one_known (map seen_occurrence found) i (names seen) (seen_occurrence (get_or found i nobody)) c.loop-occurrence.invariant within same (sym w.if-not-is_among.false ∙ among))
     ]
+
+pub returns-in_err-push : goal.returns-in_err-push
+returns-in_err-push g c = grind arith
+
+pub loop-occurrence-init : goal.loop-occurrence-init
+loop-occurrence-init g c = grind arith
+
+pub offset_bounds-occurrences-occurrence-index : goal.offset_bounds-occurrences-occurrence-index
+offset_bounds-occurrences-occurrence-index g c = grind arith
+
+pub returns-in_err-push-2 : goal.returns-in_err-push-2
+returns-in_err-push-2 g c = grind arith
+
+pub returns : goal.returns
+returns g c = grind (arith, common_steps)

@@ -1,4 +1,6 @@
 -- One more piece at each turn.
+use Rattle.std.proofs.Common.{arith}
+use Rattle.std.proofs.lemmas.Grind.{common_steps}
 use Rattle.std.proofs.Common.{◌<◌, ◌∙◌, ap, sym, refl, length, map}
 use Rattle.std.proofs.lemmas.List.{length-map}
 use Rattle.query_check.specs.Numbered.{level_around}
@@ -31,3 +33,27 @@ loop-i-preserved g c =
           (w.level-is ∙ w.around-level.ensures ∙ ap (λ a. level_around a l.level) w.as_slice.ensures.value))
           refl (ap (λ v. v.items) w.all-is)
     ]
+
+pub returns-in_err-all : goal.returns-in_err-all
+returns-in_err-all g c = grind arith
+
+pub loop-i-init : goal.loop-i-init
+loop-i-init g c = grind arith
+
+pub offset_bounds-pieces-i : goal.offset_bounds-pieces-i
+offset_bounds-pieces-i g c = grind arith
+
+pub bounds-pieces-i : goal.bounds-pieces-i
+bounds-pieces-i g c = grind arith
+
+pub returns-in_err-push-in-Item : goal.returns-in_err-push-in-Item
+returns-in_err-push-in-Item g c = grind arith
+
+pub returns-in_err-push-in-Opening : goal.returns-in_err-push-in-Opening
+returns-in_err-push-in-Opening g c = grind arith
+
+pub around-level-requires : goal.around-level-requires
+around-level-requires g c = grind arith
+
+pub returns : goal.returns
+returns g c = grind (arith, common_steps)

@@ -1,4 +1,6 @@
 -- One more variable at each turn.
+use Rattle.std.proofs.Common.{arith}
+use Rattle.std.proofs.lemmas.Grind.{common_steps}
 use Rattle.std.proofs.Common.{◌≡◌, ◌<◌, ◌+◌, ◌∙◌, [], ap, get_or, length, map, subst, sym, List}
 use Rattle.std.proofs.lemmas.List.{length-map, get_or-map, map-append}
 use Rattle.std.specs.List.{list_any}
@@ -33,3 +35,15 @@ loop-variable-preserved g c =
             | else-is_whole-via-else-is_whole u ↦ other_kind c.args.whole (map seen_variable vs) _ i now v c.loop-variable.invariant within same (sym u.if-is_whole.false ∙ c.is_whole.ensures)
           ])
     ]
+
+pub loop-variable-init : goal.loop-variable-init
+loop-variable-init g c = grind arith
+
+pub offset_bounds-owned-variable-index : goal.offset_bounds-owned-variable-index
+offset_bounds-owned-variable-index g c = grind arith
+
+pub returns-in_err-push : goal.returns-in_err-push
+returns-in_err-push g c = grind arith
+
+pub returns : goal.returns
+returns g c = grind (arith, common_steps)

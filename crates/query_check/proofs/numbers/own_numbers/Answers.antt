@@ -1,4 +1,6 @@
 -- One more variable at each turn.
+use Rattle.std.proofs.Common.{arith}
+use Rattle.std.proofs.lemmas.Grind.{common_steps}
 use Rattle.std.proofs.Common.{◌≡◌, ◌<◌, ◌+◌, ◌∙◌, [], ap, get_or, length, map, subst, sym, List, ℕ}
 use Rattle.std.proofs.lemmas.List.{length-map, get_or-map}
 use Rattle.query_check.specs.declared.numbers.Variable as code
@@ -22,3 +24,18 @@ loop-i-preserved g c =
       | then-variable-level+in_ok-push w ↦ subst P (sym (ap (λ o. o.items) w.own-is ∙ w.in_ok-push.ensures.items)) (one_listed c.args.level (map seen_variable vs) i c.loop-i.own.items v c.loop-i.invariant within same w.if-variable-level.true)
       | else-variable-level w ↦ subst P (sym (ap (λ o. o.items) w.own-is)) (not_listed c.args.level (map seen_variable vs) i c.loop-i.own.items v c.loop-i.invariant within same w.if-variable-level.false)
     ]
+
+pub loop-i-init : goal.loop-i-init
+loop-i-init g c = grind arith
+
+pub offset_bounds-numbered-i : goal.offset_bounds-numbered-i
+offset_bounds-numbered-i g c = grind arith
+
+pub bounds-numbered-i : goal.bounds-numbered-i
+bounds-numbered-i g c = grind arith
+
+pub returns-in_err-push : goal.returns-in_err-push
+returns-in_err-push g c = grind arith
+
+pub returns : goal.returns
+returns g c = grind (arith, common_steps)

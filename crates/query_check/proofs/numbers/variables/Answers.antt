@@ -1,4 +1,6 @@
 -- One more occurrence at each turn, and then each variable once.
+use Rattle.std.proofs.Common.{arith}
+use Rattle.std.proofs.lemmas.Grind.{common_steps}
 use Rattle.std.proofs.Common.{◌∙◌, [], ap, get_or, map, sym}
 use Rattle.query_check.specs.declared.scope.Occurrence as code
 use Rattle.query_check.specs.Seen.{seen_variable, seen_occurrence}
@@ -26,3 +28,30 @@ loop-occurrence-preserved g c =
     ∙ one_owned (sightings ps) (occurrences ps) i no_occurrence (map seen_variable c.loop-occurrence.owned.items) _ at.0.within c.loop-occurrence.invariant
     (owned_is (sightings ps) (get_or (occurrences ps) i no_occurrence) (seen_occurrence (get_or c.args.found.now i nobody)) c.owner.result at.1
     (owns ∙ ap (λ all. owner all (get_or c.args.found.now i nobody).name.now (get_or (occurrences ps) i no_occurrence).path) c.requires.occurrences))
+
+pub loop-occurrence-init : goal.loop-occurrence-init
+loop-occurrence-init g c = grind arith
+
+pub offset_bounds-found-occurrence-index : goal.offset_bounds-found-occurrence-index
+offset_bounds-found-occurrence-index g c = grind arith
+
+pub owner-requires-clause-tree : goal.owner-requires-clause-tree
+owner-requires-clause-tree g c = grind arith
+
+pub returns-in_err-push : goal.returns-in_err-push
+returns-in_err-push g c = grind arith
+
+pub has_this-requires : goal.has_this-requires
+has_this-requires g c = grind arith
+
+pub returns-in_err-push-2 : goal.returns-in_err-push-2
+returns-in_err-push-2 g c = grind arith
+
+pub returns-in_err-add_new : goal.returns-in_err-add_new
+returns-in_err-add_new g c = grind arith
+
+pub returns-in_err-add_new-2 : goal.returns-in_err-add_new-2
+returns-in_err-add_new-2 g c = grind arith
+
+pub returns : goal.returns
+returns g c = grind (arith, common_steps)

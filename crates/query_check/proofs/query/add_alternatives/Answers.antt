@@ -1,4 +1,6 @@
 -- One more alternative at each turn.
+use Rattle.std.proofs.Common.{arith}
+use Rattle.std.proofs.lemmas.Grind.{common_steps}
 use Rattle.std.proofs.Common.{◌<◌, ◌∙◌, ap, get_or, length, map, sym}
 use Rattle.std.specs.Prelude.{option_map}
 use Rattle.std.proofs.lemmas.List.{get_or-map, length-map}
@@ -30,3 +32,6 @@ returns-in_default g c path at rooted =
     none_asked (checked_term (g.W.Lookup.known c.args.world.now) (map seen_occurrence scope.found.now) (map seen_variable scope.numbered.now) path) c.args.all.now.items c.loop-part.all.items (map seen_part parts) i part within
     (get_or-map seen_part parts i no_part part c.loop-part-test.true) (c.loop-part.invariant path at rooted)
     (sym c.alternative.ensures ∙ ap (option_map (λ t. seen_term t.now)) c.in_default.is)
+
+pub returns : goal.returns
+returns g c = grind (arith, common_steps)

@@ -1,4 +1,5 @@
 -- One more part at each turn.
+use Rattle.std.proofs.Common.{arith}
 use Rattle.std.proofs.Common.{◌+◌, ◌<◌, [], get_or, length, map}
 use Rattle.std.proofs.lemmas.List.{get_or-map, length-map}
 use Rattle.query_check.specs.Places.{place_of}
@@ -28,3 +29,42 @@ returns g c =
     let scope = c.args.scope.now in
     all_built (pieces_of (g.W.Lookup.known c.args.world.now) (map seen_occurrence scope.found.now) (map seen_variable scope.numbered.now)) ps c.loop-i.i (map seen_piece c.loop-i.pieces.items) c.loop-i.invariant
     (rw length-map c.loop-i-test.false)
+
+pub loop-i-init : goal.loop-i-init
+loop-i-init g c = grind arith
+
+pub offset_bounds-parts-i : goal.offset_bounds-parts-i
+offset_bounds-parts-i g c = grind arith
+
+pub bounds-parts-i : goal.bounds-parts-i
+bounds-parts-i g c = grind arith
+
+pub offset_bounds-scope-i : goal.offset_bounds-scope-i
+offset_bounds-scope-i g c = grind arith
+
+pub bounds-scope-i : goal.bounds-scope-i
+bounds-scope-i g c = grind arith
+
+pub overflow_add-i : goal.overflow_add-i
+overflow_add-i g c = grind arith
+
+pub offset_bounds-parts-i-in-loop-i : goal.offset_bounds-parts-i-in-loop-i
+offset_bounds-parts-i-in-loop-i g c = grind arith
+
+pub slice_bounds-add_pieces-count : goal.slice_bounds-add_pieces-count
+slice_bounds-add_pieces-count g c = grind arith
+
+pub slice_bounds-add_pieces-start : goal.slice_bounds-add_pieces-start
+slice_bounds-add_pieces-start g c = grind arith
+
+pub slice_bounds-add_pieces-end : goal.slice_bounds-add_pieces-end
+slice_bounds-add_pieces-end g c = grind arith
+
+pub add_pieces-requires-clause-tree : goal.add_pieces-requires-clause-tree
+add_pieces-requires-clause-tree g c = grind arith
+
+pub add_pieces-requires-clause-within : goal.add_pieces-requires-clause-within
+add_pieces-requires-clause-within g c = grind arith
+
+pub returns-in_err-add_pieces : goal.returns-in_err-add_pieces
+returns-in_err-add_pieces g c = grind arith
