@@ -1,10 +1,10 @@
 -- What a query asks, as patterns of ids.
 use Rattle.std.specs.Prelude.{◌≡◌, ℕ, ◌==◌, Bool, true, false, not, ◌&&◌, ◌||◌, nat_lt, List, [], ◌∷◌, ◌++◌, flat_map, map, Option, Some, None, is_none, is_some, option_map, if◌then◌else◌}
 use Rattle.std.specs.List.{list_all, list_any}
-use Rattle.component_index.specs.Patterns.{matches}
-use Rattle.component_index.specs.declared.pattern.Part.{Part}
-use Rattle.component_index.specs.declared.pattern.Part.TheVariants as part
-use Rattle.component_index.specs.declared.pattern.Pattern.{Pattern}
+use Rattle.id_pattern.specs.Patterns.{matches}
+use Rattle.id_pattern.specs.declared.Part.{Part}
+use Rattle.id_pattern.specs.declared.Part.TheVariants as part
+use Rattle.id_pattern.specs.declared.Pattern.{Pattern}
 use Rattle.ecs_id.specs.Id.{Id}
 use Rattle.query_check.specs.Terms.{terms as terms_of}
 use Rattle.watch_concerns.specs.Anchored.{is_variable}

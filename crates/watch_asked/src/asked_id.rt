@@ -2,13 +2,13 @@
 
 ghost use Rattle.std.specs.Prelude.{◌≡◌, ◌++◌, Some, map};
 ghost use Rattle.std.specs.List.{list_any};
-ghost use Rattle.component_index.specs.Patterns.{matches};
-ghost use Rattle.component_index.specs.declared.pattern.Part.TheVariants.{Is};
+ghost use Rattle.id_pattern.specs.Patterns.{matches};
+ghost use Rattle.id_pattern.specs.declared.Part.TheVariants.{Is};
 ghost use Rattle.watch_asked.specs.Asked.{any_asked, have_all};
 
-use component_index::{Part, Pattern};
 use ecs_id::Id;
 use ecs_model::FactKey;
+use id_pattern::{Part, Pattern};
 use plan_steps::word_test::WordTest;
 use std::marker::Model;
 
@@ -20,7 +20,7 @@ pub struct AskedId {
 }
 
 impl Model for AskedId {
-    ghost use Rattle.component_index.specs.declared.pattern.Pattern as patterns;
+    ghost use Rattle.id_pattern.specs.declared.Pattern as patterns;
     ghost use Rattle.plan_steps.specs.WordTests.{IsTestOf};
 
     ghost Value = { patterns.Pattern };

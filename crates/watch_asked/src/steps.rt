@@ -1,14 +1,14 @@
 //! How the terms of a query lead from the entity of one variable to the entity of another.
 
 ghost use Rattle.std.specs.Prelude.{◌≡◌, ◌++◌, IfOk, OnOk, Some, flat_map};
-ghost use Rattle.component_index.specs.Patterns.{matches};
-ghost use Rattle.component_index.specs.declared.pattern.Part.TheVariants.{Is};
+ghost use Rattle.id_pattern.specs.Patterns.{matches};
+ghost use Rattle.id_pattern.specs.declared.Part.TheVariants.{Is};
 ghost use Rattle.watch_asked.specs.Asked.{steps_between, steps_of};
 
 use crate::asked::asked_by;
 use crate::asked_id::AskedId;
-use component_index::Pattern;
 use ecs_id::Id;
+use id_pattern::Pattern;
 use query_model::query::{Ref, Term};
 use std::alloc::{AllocError, Allocator};
 

@@ -1,7 +1,7 @@
 use Rattle.std.proofs.Common.{◌≡◌, drop}
 use Rattle.std.specs.Prelude.{map}
 use Rattle.std.specs.List.{list_any}
-use Rattle.component_index.specs.Patterns.{matches}
+use Rattle.id_pattern.specs.Patterns.{matches}
 use Rattle.watch_asked.proofs.asked_id.is_among_facts.Given as goal
 
 abbrev pub invariant-loop-fact : goal.invariant-loop-fact

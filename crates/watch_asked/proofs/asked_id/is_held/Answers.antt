@@ -2,7 +2,7 @@ use Rattle.std.proofs.Common.{◌∙◌, sym}
 use Rattle.std.specs.Prelude.{map, ◌||◌}
 use Rattle.std.specs.List.{list_any}
 use Rattle.std.proofs.lemmas.List.Folds.{list_any-append}
-use Rattle.component_index.specs.Patterns.{matches}
+use Rattle.id_pattern.specs.Patterns.{matches}
 use Rattle.ecs_model.specs.World.{Key}
 use Rattle.watch_asked.proofs.asked_id.is_held.Goals as goal
 
