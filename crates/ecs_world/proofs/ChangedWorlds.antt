@@ -9,7 +9,7 @@ use Rattle.std.specs.FinMap.{is_sorted}
 use Rattle.std.specs.FinMap.Entries.{below_all}
 use Rattle.std.specs.declared.cmp.Ordering.{Ordering}
 use Rattle.std.specs.declared.cmp.Ordering.TheVariants.{Less, Equal, Greater}
-pub use Rattle.component_index.proofs.ListedLemmas.{on_err as when_err}
+pub use Rattle.id_pattern.proofs.Errors.{on_err as when_err}
 use Rattle.ecs_id.specs.Id.{Id, plain, pair, id_cmp}
 use Rattle.ecs_model.specs.steps.Outcomes.{with_facts}
 use Rattle.ecs_model.specs.Map.{Map, IsMap, has_key, keys, value_at}

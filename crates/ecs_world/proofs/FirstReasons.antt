@@ -12,32 +12,40 @@ use Rattle.ecs_model.specs.World.{WorldState, component, is_alive, is_built_in, 
 use Rattle.ecs_model.specs.steps.FactChanges.{deleted}
 use Rattle.ecs_model.specs.steps.Step.{Add, SetValue, Remove, Delete, add_reasons, adds_built_in, delete_reasons, reasons, step}
 use Rattle.ecs_model.specs.steps.Rules.{is_trait}
-use Rattle.ecs_world.specs.Changes.{TellsRefusal}
+use Rattle.ecs_world.specs.Changes.{TellsRefusal, fact_reasons}
 use Rattle.ecs_model.proofs.StepAnswers.{answers_refused}
 use Rattle.ecs_world.proofs.RefusalReasons.{none_first, told_first}
 
 module _ (w : WorldState) (e : EntityId) (i : Id) where
-  pub add_of_dead : is_dead w e i ≡ true → first_reason (reasons w (Add e i)) ≡ Some Dead
-  unfolding reasons
-  add_of_dead d = ap (λ b. first_reason ((b, Dead) ∷ (adds_built_in w e.index i, BuiltIn) ∷ add_reasons w e.index i)) d
+  pub fact_of_dead : is_dead w e i ≡ true → first_reason (fact_reasons w e i) ≡ Some Dead
+  fact_of_dead d = ap (λ b. first_reason ((b, Dead) ∷ (adds_built_in w e.index i, BuiltIn) ∷ [])) d
 
-  pub add_to_built_in : is_dead w e i ≡ false → adds_built_in w e.index i ≡ true → first_reason (reasons w (Add e i)) ≡ Some BuiltIn
+  pub fact_of_built_in : is_dead w e i ≡ false → adds_built_in w e.index i ≡ true → first_reason (fact_reasons w e i) ≡ Some BuiltIn
+  fact_of_built_in d b = λ k. first_reason ((d k, Dead) ∷ (b k, BuiltIn) ∷ [])
+
+  -- a reason against the fact is the first against its addition
+  add_first : (r : Refusal) → first_reason (fact_reasons w e i) ≡ Some r → first_reason (reasons w (Add e i)) ≡ Some r
   unfolding reasons
-  add_to_built_in d b = λ k. first_reason ((d k, Dead) ∷ (b k, BuiltIn) ∷ add_reasons w e.index i)
+  add_first r told = sym (told_first (fact_reasons w e i) (add_reasons w e.index i) r (sym told))
 
   -- otherwise it is what is against the facts that would be left
   pub add_otherwise : is_dead w e i ≡ false → adds_built_in w e.index i ≡ false → first_reason (reasons w (Add e i)) ≡ first_reason (add_reasons w e.index i)
   unfolding reasons
   add_otherwise d b = λ k. first_reason ((d k, Dead) ∷ (b k, BuiltIn) ∷ add_reasons w e.index i)
 
-  module _ (vs : List ℤ) where
-    pub set_of_dead : is_dead w e i ≡ true → first_reason (reasons w (SetValue e i vs)) ≡ Some Dead
-    unfolding reasons
-    set_of_dead d = ap (λ b. first_reason ((b, Dead) ∷ (adds_built_in w e.index i, BuiltIn) ∷ (value_reasons (type_of_id w i) vs ++ add_reasons w e.index i))) d
+  pub answers_unadded : (v : WorldState) (fault : CommandError) → TellsRefusal (first_reason (fact_reasons w e i)) fault → v ≡ w → AnswersStep (Err fault) (step w (Add e i)) w v
+  answers_unadded v (Refused r) told is = answers_refused w (Add e i) r v (add_first r told) is
+  answers_unadded v Memory told is = is
 
-    pub set_on_built_in : is_dead w e i ≡ false → adds_built_in w e.index i ≡ true → first_reason (reasons w (SetValue e i vs)) ≡ Some BuiltIn
+  pub answers_unbrought : (v : WorldState) (fault : CommandError) → is_dead w e i ≡ false → adds_built_in w e.index i ≡ false → TellsRefusal (first_reason (add_reasons w e.index i)) fault → v ≡ w
+      → AnswersStep (Err fault) (step w (Add e i)) w v
+  answers_unbrought v (Refused r) d b told is = answers_refused w (Add e i) r v (add_otherwise d b ∙ told) is
+  answers_unbrought v Memory d b told is = is
+
+  module _ (vs : List ℤ) where
+    set_first : (r : Refusal) → first_reason (fact_reasons w e i) ≡ Some r → first_reason (reasons w (SetValue e i vs)) ≡ Some r
     unfolding reasons
-    set_on_built_in d b = λ k. first_reason ((d k, Dead) ∷ (b k, BuiltIn) ∷ (value_reasons (type_of_id w i) vs ++ add_reasons w e.index i))
+    set_first r told = sym (told_first (fact_reasons w e i) (value_reasons (type_of_id w i) vs ++ add_reasons w e.index i) r (sym told))
 
     set_otherwise : is_dead w e i ≡ false → adds_built_in w e.index i ≡ false → first_reason (reasons w (SetValue e i vs)) ≡ first_reason (value_reasons (type_of_id w i) vs ++ add_reasons w e.index i)
     unfolding reasons
@@ -51,6 +59,15 @@ module _ (w : WorldState) (e : EntityId) (i : Id) where
     pub set_value : is_dead w e i ≡ false → adds_built_in w e.index i ≡ false → first_reason (value_reasons (type_of_id w i) vs) ≡ None
         → first_reason (reasons w (SetValue e i vs)) ≡ first_reason (add_reasons w e.index i)
     set_value d b none = set_otherwise d b ∙ sym (none_first (value_reasons (type_of_id w i) vs) (add_reasons w e.index i) (sym none))
+
+    pub answers_unset : (v : WorldState) (fault : CommandError) → TellsRefusal (first_reason (fact_reasons w e i)) fault → v ≡ w → AnswersStep (Err fault) (step w (SetValue e i vs)) w v
+    answers_unset v (Refused r) told is = answers_refused w (SetValue e i vs) r v (set_first r told) is
+    answers_unset v Memory told is = is
+
+    pub answers_unbrought_value : (v : WorldState) (fault : CommandError) → is_dead w e i ≡ false → adds_built_in w e.index i ≡ false → first_reason (value_reasons (type_of_id w i) vs) ≡ None
+        → TellsRefusal (first_reason (add_reasons w e.index i)) fault → v ≡ w → AnswersStep (Err fault) (step w (SetValue e i vs)) w v
+    answers_unbrought_value v (Refused r) d b none told is = answers_refused w (SetValue e i vs) r v (set_value d b none ∙ told) is
+    answers_unbrought_value v Memory d b none told is = is
 
   pub remove_of_dead : is_dead w e i ≡ true → first_reason (reasons w (Remove e i)) ≡ Some Dead
   unfolding reasons

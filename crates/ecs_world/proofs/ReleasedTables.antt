@@ -14,9 +14,9 @@ use Rattle.ecs_id.specs.Id.{Id, id_cmp, id_eq, id_eq_itself, id_eq_same, plain, 
 use Rattle.ecs_model.specs.Map.{keys, value_at}
 use Rattle.ecs_model.specs.World.{Key, key_cmp, key_eq, pair_is_tag}
 use Rattle.ecs_model.proofs.Maps.{both_true, key_cmp_same}
-use Rattle.component_index.specs.declared.pattern.Part.TheVariants.{Is, Any}
-use Rattle.component_index.specs.declared.pattern.Pattern.{Pattern}
-use Rattle.component_index.specs.Patterns.{matches}
+use Rattle.id_pattern.specs.declared.Part.TheVariants.{Is, Any}
+use Rattle.id_pattern.specs.declared.Pattern.{Pattern}
+use Rattle.id_pattern.specs.Patterns.{matches}
 use Rattle.table_store.specs.Going.{goes_on_same, goes_on_then}
 use Rattle.table_store.specs.Rows.{Cells, Row, cells_of, row_at, rows_in}
 use Rattle.table_store.specs.Store.{IsStore, Shape, Store, ids_at, shape_at, shape_of, table_at}

@@ -1,15 +1,17 @@
 -- What commands change, and what they answer of it.
 use Rattle.std.specs.List.{list_any}
-use Rattle.std.specs.Prelude.{◌≡◌, ℕ, ℤ, true, List, [], ◌∷◌, Contains, filter_map, fold, map, take, Option, Some, unwrap_or}
+use Rattle.std.specs.Prelude.{◌≡◌, ℕ, ℤ, Bool, true, List, [], ◌∷◌, Contains, filter_map, fold, map, take, Option, Some, unwrap_or}
 use Rattle.std.specs.Ordering.{nat_cmp, on, then_cmp}
 use Rattle.std.specs.declared.cmp.Ordering.{Ordering}
 use Rattle.ecs_id.specs.declared.EntityId.{EntityId}
 use Rattle.ecs_id.specs.Id.{Id}
 use Rattle.ecs_model.specs.steps.FactChanges.{coming, replaced, with_new}
-use Rattle.ecs_model.specs.steps.Outcomes.{Changed, with_facts}
+use Rattle.ecs_model.specs.steps.Outcomes.{Changed, is_dead, with_facts}
+use Rattle.ecs_model.specs.steps.Step.{adds_built_in}
 use Rattle.ecs_model.specs.declared.faults.CommandError.{CommandError}
 use Rattle.ecs_model.specs.declared.faults.CommandError.TheVariants.{Refused, Memory}
 use Rattle.ecs_model.specs.declared.faults.Refusal.{Refusal}
+use Rattle.ecs_model.specs.declared.faults.Refusal.TheVariants.{Dead, BuiltIn}
 use Rattle.ecs_model.specs.Map.{Map, keys, with_value, without}
 use Rattle.ecs_model.specs.World.{WorldState, Key, entity_at, holds, is_alive, key_cmp, key_eq, name_of, type_of_id, value_of}
 use Rattle.ecs_model.specs.steps.WellFormed.{IsWellFormed}
@@ -79,3 +81,7 @@ entity_cmp = then_cmp (on (λ e. e.index) nat_cmp) (on (λ e. e.generation) nat_
 abbrev pub TellsRefusal : Option Refusal → CommandError → Type 0
 TellsRefusal reason (Refused refusal) = reason ≡ Some refusal
 TellsRefusal reason Memory = Unit {0}
+
+-- the reasons against a fact that come before those against its value
+abbrev pub fact_reasons : WorldState → EntityId → Id → List (Bool × Refusal)
+fact_reasons w e i = (is_dead w e i, Dead) ∷ (adds_built_in w e.index i, BuiltIn) ∷ []

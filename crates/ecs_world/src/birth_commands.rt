@@ -1,8 +1,9 @@
 //! Commands that make an entity. Where memory is refused, what was done before is undone.
 
-ghost use Rattle.std.specs.Prelude.{◌≡◌, ◌<◌, ◌≤◌, IfErr, None, OnErr, OnOk, true};
+ghost use Rattle.std.specs.Prelude.{◌≡◌, ◌<◌, ◌≤◌, ◌++◌, IfErr, IfOk, None, OnErr, OnOk, Some, true};
 ghost use Rattle.std.specs.FinMap as finite;
-ghost use Rattle.ecs_model.specs.steps.Outcomes.{AnswersStep};
+ghost use Rattle.ecs_model.specs.Refusal.{first_reason};
+ghost use Rattle.ecs_model.specs.steps.Outcomes.{AnswersStep, birth_reasons, name_reasons, next_entity};
 ghost use Rattle.ecs_model.specs.declared.faults.CommandError.TheVariants.{Memory};
 ghost use Rattle.ecs_model.specs.steps.Step.{Component, Entity, Fresh, step};
 ghost use Rattle.ecs_model.specs.Text.{is_name};
@@ -48,12 +49,11 @@ impl<A: Allocator + Copy> World<A> {
         ensures goes_on { TablesGoOn self.old.tables self.new.tables }
         ensures stay { NoneGo self.old self.new }
     {
-        if let Some(full) = self.birth_refusal() {
-            return Err(CommandError::Refused(self.refusal_of(name, full)));
-        }
-        let entity = self.archetypes.upcoming().unwrap();
-        cover(&mut self.pins, entity)?;
-        bind(&mut self.names, name, entity)?;
+        let entity = match self.admit(name) {
+            Ok(entity) => entity,
+            Err(refusal) => return Err(CommandError::Refused(refusal)),
+        };
+        bind(&mut self.pins, &mut self.names, name, entity)?;
         if self.archetypes.create(&[]).is_err() {
             self.names.unbind(entity);
             return Err(CommandError::Memory);
@@ -69,14 +69,13 @@ impl<A: Allocator + Copy> World<A> {
         ensures goes_on { TablesGoOn self.old.tables self.new.tables }
         ensures stay { NoneGo self.old self.new }
     {
-        if let Some(full) = self.birth_refusal() {
-            return Err(CommandError::Refused(self.refusal_of(name, full)));
-        }
-        let entity = self.archetypes.upcoming().unwrap();
+        let entity = match self.admit(name) {
+            Ok(entity) => entity,
+            Err(refusal) => return Err(CommandError::Refused(refusal)),
+        };
         // What is known of it: it has no fault.
         let _ = schema.fields();
-        cover(&mut self.pins, entity)?;
-        bind(&mut self.names, name, entity)?;
+        bind(&mut self.pins, &mut self.names, name, entity)?;
         if self.schemas.insert(entity.index, schema).is_err() {
             self.names.unbind(entity);
             return Err(CommandError::Memory);
@@ -91,6 +90,21 @@ impl<A: Allocator + Copy> World<A> {
         let EntityId { index, generation } = entity;
         let fact = FactKey::new(index, component);
         Ok(Changes::of(Told::BornWith { generation, fact }))
+    }
+
+    /// The entity that the next birth makes, or why none is made with this name where none is made with any.
+    #[inline(always)]
+    fn admit(&self, name: &str) -> Result<EntityId, Refusal>
+        ensures next { IfOk result (λ entity. next_entity self.now.state ≡ Some entity) }
+        ensures room { OnOk result (first_reason (birth_reasons self.now.state) ≡ None) }
+        ensures refused { IfErr result (λ refusal. Some refusal ≡ first_reason
+            (name_reasons self.now.state name.now ++ birth_reasons self.now.state)) }
+    {
+        if let Some(full) = self.birth_refusal() {
+            return Err(self.refusal_of(name, full));
+        }
+        let entity = self.upcoming().unwrap();
+        Ok(entity)
     }
 }
 
@@ -107,18 +121,26 @@ fn cover<A: Allocator>(pins: &mut PinCounts<A>, entity: EntityId) -> Result<(), 
     }
 }
 
-/// Binds the name of a new entity.
+/// Makes room for the count of the stored queries that will mention a new entity, and binds its name.
+#[inline(always)]
 fn bind<A: Allocator + Copy>(
+    pins: &mut PinCounts<A>,
     names: &mut NameIndex<A>,
     name: &str,
     entity: EntityId,
 ) -> Result<(), CommandError>
     requires { IsUnnamed names.old entity }
+    ensures entries { pins.new.entries ≡ pins.old.entries }
+    ensures further { pins.old.reach ≤ pins.new.reach }
+    ensures covers { OnOk result (entity.index < pins.new.reach) }
     ensures bound { OnOk result (names.new ≡ finite.insert names.old name.now entity) }
     ensures free { OnOk result ((is_name name.now ≡ true) × (finite.get names.old name.now ≡ None)) }
     ensures refused { IfErr result (IsUnbound names.old name.now) }
     ensures err { OnErr result (names.new ≡ names.old) }
 {
+    if pins.cover(entity.index).is_err() {
+        return Err(CommandError::Memory);
+    }
     match names.bind(name, entity) {
         Ok(()) => Ok(()),
         Err(BindError::BadName) => Err(CommandError::Refused(Refusal::BadName)),

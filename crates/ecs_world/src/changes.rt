@@ -65,9 +65,15 @@ struct Lists<A: Allocator> {
 
 /// Lists of what changes. A command makes them before it changes its world, and fills them after, which takes no more
 /// memory.
-#[derive(Drop)]
 pub(crate) struct ChangeLists<A: Allocator> {
     lists: Box<Lists<A>, A>,
+}
+
+impl<A: Allocator> Drop for ChangeLists<A> {
+    #[inline(always)]
+    fn drop(self) {
+        let Self { lists: _ } = self;
+    }
 }
 
 impl<A: Allocator + Copy> ChangeLists<A> {
@@ -149,9 +155,16 @@ pub(crate) enum Told<A: Allocator> {
 }
 
 /// What an accepted command has changed.
-#[derive(Drop)]
 pub struct Changes<A: Allocator = Global> {
     told: Told<A>,
+}
+
+// By hand, so that the drop of each kind is proved here, and not again wherever one goes.
+impl<A: Allocator> Drop for Changes<A> {
+    #[inline(always)]
+    fn drop(self) {
+        let Self { told: _ } = self;
+    }
 }
 
 impl<A: Allocator> Model for Changes<A> {

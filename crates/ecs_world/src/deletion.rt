@@ -39,11 +39,17 @@ use std::collections::BTreeMap;
 use std::mem;
 
 /// Who is deleted, and the facts that go with them.
-#[derive(Drop)]
 pub(crate) struct Deletion<A: Allocator> {
     /// By ascending index.
     dead: Vec<EntityId, A>,
     facts: GoneFacts<A>,
+}
+
+impl<A: Allocator> Drop for Deletion<A> {
+    #[inline(always)]
+    fn drop(self) {
+        let Self { dead: _, facts: _ } = self;
+    }
 }
 
 impl<A: Allocator + Copy> Deletion<A> {

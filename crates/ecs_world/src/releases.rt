@@ -8,9 +8,9 @@ ghost use Rattle.ecs_archetypes.specs.Housing.{IsHoused, holdings_of};
 ghost use Rattle.ecs_world.specs.Releases.{AreLeft, gets_no_data, indexes_of, mentions_one};
 
 use crate::built_in::PAIR_IS_TAG;
-use component_index::{Part, Pattern};
 use ecs_archetypes::{Archetypes, SizedFact};
 use ecs_id::{EntityId, Id};
+use id_pattern::{Part, Pattern};
 use std::alloc::Allocator;
 
 /// Releases the tables of pairs of each relationship to which PairIsTag has come. No entity holds such a pair.

@@ -110,3 +110,24 @@ returns-clause-goes_on g c = going_on c.self.view_is c.replace-moved.ensures.kep
 
 pub returns-clause-stay : goal.returns-clause-stay
 returns-clause-stay g c = staying_on c.self.view_is c.replace-moved.ensures.kept.stay
+
+pub replacing_refusal-requires-clause-in_place : goal.replacing_refusal-requires-clause-in_place
+replacing_refusal-requires-clause-in_place g c = grind arith
+
+pub replacing_refusal-requires-clause-alive : goal.replacing_refusal-requires-clause-alive
+replacing_refusal-requires-clause-alive g c = grind arith
+
+pub returns-in_default-new-clause-answers : goal.returns-in_default-new-clause-answers
+returns-in_default-new-clause-answers g c = grind arith
+
+pub returns-in_default-new-clause-goes_on : goal.returns-in_default-new-clause-goes_on
+returns-in_default-new-clause-goes_on g c = grind arith
+
+pub returns-in_default-new-clause-stay : goal.returns-in_default-new-clause-stay
+returns-in_default-new-clause-stay g c = grind arith
+
+pub replace-moved-requires-clause-there : goal.replace-moved-requires-clause-there
+replace-moved-requires-clause-there g c = grind arith
+
+pub replace-moved-requires-clause-small : goal.replace-moved-requires-clause-small
+replace-moved-requires-clause-small g c = grind arith

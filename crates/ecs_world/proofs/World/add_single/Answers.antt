@@ -162,3 +162,18 @@ returns-clause-goes_on g c = going_on c.self.view_is c.add.ensures.kept.goes_on
 
 pub returns-clause-stay : goal.returns-clause-stay
 returns-clause-stay g c = staying_on c.self.view_is c.add.ensures.kept.stay
+
+pub single_refusal-requires-clause-alone : goal.single_refusal-requires-clause-alone
+single_refusal-requires-clause-alone g c = grind arith
+
+pub single_refusal-requires-clause-alive : goal.single_refusal-requires-clause-alive
+single_refusal-requires-clause-alive g c = grind arith
+
+pub add-requires-clause-there : goal.add-requires-clause-there
+add-requires-clause-there g c = grind arith
+
+pub add-requires-clause-not_held : goal.add-requires-clause-not_held
+add-requires-clause-not_held g c = grind arith
+
+pub add-requires-clause-small : goal.add-requires-clause-small
+add-requires-clause-small g c = grind arith

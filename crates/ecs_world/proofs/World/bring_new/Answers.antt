@@ -1,3 +1,4 @@
+use Rattle.std.proofs.Common.{arith}
 use Rattle.std.proofs.Common.{subst, sym, ap, ◌∙◌}
 use Rattle.std.specs.List.{list_any}
 use Rattle.ecs_archetypes.specs.Housing.{holdings_of}
@@ -88,3 +89,36 @@ returns-clause-stay g c =
     let came = c.deref-4.ensures.value ∙ c.in_ok-size_facts.ensures.sized ∙ ap (sized_by c.args.self.now.state) c.deref.ensures.value in
     staying_on c.self.view_is (stay_then _ _ _ _ (stay_all c.change_facts.ensures.kept.stay)
     (subst (λ ks. TablesStay (list_any (gets_no_data ks)) c.change_facts.new.self.tables c.release_tag_pairs.new.archetypes.tables) came c.release_tag_pairs.ensures.stay))
+
+pub returns-in_err-size_facts-clause-brought : goal.returns-in_err-size_facts-clause-brought
+returns-in_err-size_facts-clause-brought g c = grind arith
+
+pub returns-in_err-size_facts-clause-refused : goal.returns-in_err-size_facts-clause-refused
+returns-in_err-size_facts-clause-refused g c = grind arith
+
+pub returns-in_err-size_facts-clause-goes_on : goal.returns-in_err-size_facts-clause-goes_on
+returns-in_err-size_facts-clause-goes_on g c = grind arith
+
+pub returns-in_err-size_facts-clause-stay : goal.returns-in_err-size_facts-clause-stay
+returns-in_err-size_facts-clause-stay g c = grind arith
+
+pub returns-in_err-size_facts-clause-kept : goal.returns-in_err-size_facts-clause-kept
+returns-in_err-size_facts-clause-kept g c = grind arith
+
+pub change_facts-requires-clause-small : goal.change_facts-requires-clause-small
+change_facts-requires-clause-small g c = grind arith
+
+pub change_facts-requires-clause-dead : goal.change_facts-requires-clause-dead
+change_facts-requires-clause-dead g c = grind arith
+
+pub returns-in_err-change_facts-clause-brought : goal.returns-in_err-change_facts-clause-brought
+returns-in_err-change_facts-clause-brought g c = grind arith
+
+pub returns-in_err-change_facts-clause-goes_on : goal.returns-in_err-change_facts-clause-goes_on
+returns-in_err-change_facts-clause-goes_on g c = grind arith
+
+pub returns-in_err-change_facts-clause-stay : goal.returns-in_err-change_facts-clause-stay
+returns-in_err-change_facts-clause-stay g c = grind arith
+
+pub returns-clause-goes_on : goal.returns-clause-goes_on
+returns-clause-goes_on g c = grind arith

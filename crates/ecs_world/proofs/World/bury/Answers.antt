@@ -1,3 +1,4 @@
+use Rattle.std.proofs.Common.{arith}
 use Rattle.std.proofs.Common.{◌||◌, refl, subst, ◌∙◌}
 use Rattle.std.specs.List.{list_any}
 use Rattle.ecs_archetypes.specs.Housing.{holdings_of}
@@ -69,3 +70,27 @@ returns-clause-stay g c =
     (subst (λ dead. TablesStay (list_any (mentions_one dead)) c.change_facts.new.self.tables c.release_dead.new.archetypes.tables)
     (indexes_are c.self.invariant (state_is c.self.view_is) c.args.entity c.requires.judged c.deref.result.now (c.deref.ensures.value ∙ c.requires.lost)
     c.as_slice-dead.result.now (c.as_slice-dead.ensures.value ∙ c.requires.dead)) c.release_dead.ensures.stay))
+
+pub slice_bounds-change_facts-end : goal.slice_bounds-change_facts-end
+slice_bounds-change_facts-end g c = grind arith
+
+pub change_facts-requires-clause-unheld : goal.change_facts-requires-clause-unheld
+change_facts-requires-clause-unheld g c = grind arith
+
+pub change_facts-requires-clause-small : goal.change_facts-requires-clause-small
+change_facts-requires-clause-small g c = grind arith
+
+pub change_facts-requires-clause-agree : goal.change_facts-requires-clause-agree
+change_facts-requires-clause-agree g c = grind arith
+
+pub returns-in_err-change_facts-clause-buried : goal.returns-in_err-change_facts-clause-buried
+returns-in_err-change_facts-clause-buried g c = grind arith
+
+pub returns-in_err-change_facts-clause-goes_on : goal.returns-in_err-change_facts-clause-goes_on
+returns-in_err-change_facts-clause-goes_on g c = grind arith
+
+pub returns-in_err-change_facts-clause-stay : goal.returns-in_err-change_facts-clause-stay
+returns-in_err-change_facts-clause-stay g c = grind arith
+
+pub returns-clause-goes_on : goal.returns-clause-goes_on
+returns-clause-goes_on g c = grind arith

@@ -72,3 +72,30 @@ returns-clause-stay g c =
 pub returns-then-is_err-clause-stay : goal.returns-then-is_err-clause-stay
 returns-then-is_err-clause-stay g c =
     going_to c.in_ok-find_deletion.ensures.same c.bury.new.self refl (stay_all (on_err c.bury.result c.bury.ensures.kept (sym c.is_err.ensures.value ∙ c.if-is_err.true)))
+
+pub find_deletion-requires : goal.find_deletion-requires
+find_deletion-requires g c = grind arith
+
+pub returns-in_err-find_deletion-clause-goes_on : goal.returns-in_err-find_deletion-clause-goes_on
+returns-in_err-find_deletion-clause-goes_on g c = grind arith
+
+pub returns-in_err-find_deletion-clause-stay : goal.returns-in_err-find_deletion-clause-stay
+returns-in_err-find_deletion-clause-stay g c = grind arith
+
+pub returns-in_default-clause-answers : goal.returns-in_default-clause-answers
+returns-in_default-clause-answers g c = grind arith
+
+pub returns-in_default-clause-goes_on : goal.returns-in_default-clause-goes_on
+returns-in_default-clause-goes_on g c = grind arith
+
+pub returns-in_default-clause-stay : goal.returns-in_default-clause-stay
+returns-in_default-clause-stay g c = grind arith
+
+pub returns-then-is_err-clause-answers : goal.returns-then-is_err-clause-answers
+returns-then-is_err-clause-answers g c = grind arith
+
+pub returns-then-is_err-clause-goes_on : goal.returns-then-is_err-clause-goes_on
+returns-then-is_err-clause-goes_on g c = grind arith
+
+pub returns-clause-goes_on : goal.returns-clause-goes_on
+returns-clause-goes_on g c = grind arith

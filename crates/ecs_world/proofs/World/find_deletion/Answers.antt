@@ -1,3 +1,4 @@
+use Rattle.std.proofs.Common.{arith}
 use Rattle.std.proofs.Common.{sym, ◌∙◌}
 use Rattle.ecs_world.proofs.AcceptedCommands.{on_ok}
 use Rattle.ecs_world.proofs.OrderedEntities.{dead_listed}
@@ -40,3 +41,42 @@ pub returns-clause-judged : goal.returns-clause-judged
 returns-clause-judged g c =
     let lives = alive_shown c.self.invariant c.args.entity (rw (← state_is c.self.view_is) at c.requires.alive) in
     rw (← state_is c.self.view_is) (sym (c.judge_delete.ensures.judged _ c.args.entity.index (rw c.new-links.ensures (sees c.self.invariant)) (rw c.new-links.ensures lives) c.judge_delete.ensures.found (has_counts c.self.invariant c.is_spent-is_spent.result c.is_spent-is_spent.ensures)) ∙ c.in_default.is)
+
+pub invariant_of-self : goal.invariant_of-self
+invariant_of-self g c = grind arith
+
+pub returns-then-is_err-clause-same : goal.returns-then-is_err-clause-same
+returns-then-is_err-clause-same g c = grind arith
+
+pub invariant_of-self-2 : goal.invariant_of-self-2
+invariant_of-self-2 g c = grind arith
+
+pub judge_delete-requires-clause-covered : goal.judge_delete-requires-clause-covered
+judge_delete-requires-clause-covered g c = grind arith
+
+pub invariant_of-self-in-Some : goal.invariant_of-self-in-Some
+invariant_of-self-in-Some g c = grind arith
+
+pub returns-in-Some-clause-same : goal.returns-in-Some-clause-same
+returns-in-Some-clause-same g c = grind arith
+
+pub gather-requires : goal.gather-requires
+gather-requires g c = grind arith
+
+pub invariant_of-self-then-is_err-2 : goal.invariant_of-self-then-is_err-2
+invariant_of-self-then-is_err-2 g c = grind arith
+
+pub returns-then-is_err-2-clause-same : goal.returns-then-is_err-2-clause-same
+returns-then-is_err-2-clause-same g c = grind arith
+
+pub invariant_of-self-then-is_err-3 : goal.invariant_of-self-then-is_err-3
+invariant_of-self-then-is_err-3 g c = grind arith
+
+pub returns-then-is_err-3-clause-same : goal.returns-then-is_err-3-clause-same
+returns-then-is_err-3-clause-same g c = grind arith
+
+pub invariant_of-self-3 : goal.invariant_of-self-3
+invariant_of-self-3 g c = grind arith
+
+pub returns-clause-same : goal.returns-clause-same
+returns-clause-same g c = grind arith

@@ -105,3 +105,15 @@ returns-clause-judged g c =
     let low : (w.state).accepted + length t.entities ≤ 2 ^ 64 - 1 = omega (arith, c.if-self-rows.false, accepted, count) in
     let room : nat_lt (2 ^ 64 - 1) ((w.state).accepted + length t.entities) ≡ false = grind (arith, nat_tests) in
     tells_none w k i n t at held fs typed quiet right room
+
+pub returns-in_default-clause-refused : goal.returns-in_default-clause-refused
+returns-in_default-clause-refused g c = grind arith
+
+pub overflow_sub-self-inside : goal.overflow_sub-self-inside
+overflow_sub-self-inside g c = grind arith
+
+pub returns-clause-rows : goal.returns-clause-rows
+returns-clause-rows g c = grind arith
+
+pub returns-clause-some : goal.returns-clause-some
+returns-clause-some g c = grind arith

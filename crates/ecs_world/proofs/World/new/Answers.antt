@@ -1,3 +1,4 @@
+use Rattle.std.proofs.Common.{arith}
 use Rattle.ecs_world.proofs.FirstBuiltIns.{first_is_world, first_state}
 use Rattle.ecs_world.proofs.World.new.Goals as goal
 
@@ -7,3 +8,6 @@ invariant_of-result g c =
 
 pub returns : goal.returns
 returns g c = rw (c.new.ensures.empty) (first_state _ _ c.in_ok-pins.field-0 c.in_ok-archetypes.ensures c.in_ok-names.ensures c.in_ok-pins.ensures.none)
+
+pub returns-in_err-archetypes : goal.returns-in_err-archetypes
+returns-in_err-archetypes g c = grind arith

@@ -42,3 +42,60 @@ returns-clause-answers g c =
     let listed = on_ok c.list_removals.result c.list_removals.ensures (sym c.is_err.ensures.value ∙ c.if-is_err.false) in
     removal_told c.args.self.now.state _ c.of.result c.args.entity c.args.id none (counted_state c.self-2.invariant c.args.self.now.state (Remove c.args.entity c.args.id) left sound tt none)
     (c.of.ensures ∙ c.with_facts-lists.ensures ∙ (λ k. record (c.in-Ok.ensures k) { came = c.new-2.ensures.items k; went = listed k }))
+
+pub returns-then-not-is_alive-clause-goes_on : goal.returns-then-not-is_alive-clause-goes_on
+returns-then-not-is_alive-clause-goes_on g c = grind arith
+
+pub returns-then-not-is_alive-clause-stay : goal.returns-then-not-is_alive-clause-stay
+returns-then-not-is_alive-clause-stay g c = grind arith
+
+pub remove_refusal-requires : goal.remove_refusal-requires
+remove_refusal-requires g c = grind arith
+
+pub returns-in-Some-clause-goes_on : goal.returns-in-Some-clause-goes_on
+returns-in-Some-clause-goes_on g c = grind arith
+
+pub returns-in-Some-clause-stay : goal.returns-in-Some-clause-stay
+returns-in-Some-clause-stay g c = grind arith
+
+pub list_removals-requires : goal.list_removals-requires
+list_removals-requires g c = grind arith
+
+pub returns-then-is_err-clause-answers : goal.returns-then-is_err-clause-answers
+returns-then-is_err-clause-answers g c = grind arith
+
+pub returns-then-is_err-clause-goes_on : goal.returns-then-is_err-clause-goes_on
+returns-then-is_err-clause-goes_on g c = grind arith
+
+pub returns-then-is_err-clause-stay : goal.returns-then-is_err-clause-stay
+returns-then-is_err-clause-stay g c = grind arith
+
+pub returns-in_default-new-clause-answers : goal.returns-in_default-new-clause-answers
+returns-in_default-new-clause-answers g c = grind arith
+
+pub returns-in_default-new-clause-goes_on : goal.returns-in_default-new-clause-goes_on
+returns-in_default-new-clause-goes_on g c = grind arith
+
+pub returns-in_default-new-clause-stay : goal.returns-in_default-new-clause-stay
+returns-in_default-new-clause-stay g c = grind arith
+
+pub take-requires-clause-judged : goal.take-requires-clause-judged
+take-requires-clause-judged g c = grind arith
+
+pub take-requires-clause-listed : goal.take-requires-clause-listed
+take-requires-clause-listed g c = grind arith
+
+pub returns-then-is_err-2-clause-answers : goal.returns-then-is_err-2-clause-answers
+returns-then-is_err-2-clause-answers g c = grind arith
+
+pub returns-then-is_err-2-clause-goes_on : goal.returns-then-is_err-2-clause-goes_on
+returns-then-is_err-2-clause-goes_on g c = grind arith
+
+pub returns-then-is_err-2-clause-stay : goal.returns-then-is_err-2-clause-stay
+returns-then-is_err-2-clause-stay g c = grind arith
+
+pub returns-clause-goes_on : goal.returns-clause-goes_on
+returns-clause-goes_on g c = grind arith
+
+pub returns-clause-stay : goal.returns-clause-stay
+returns-clause-stay g c = grind arith

@@ -130,3 +130,12 @@ returns-clause-goes_on g c = going_on c.self.view_is c.remove.ensures.kept.goes_
 
 pub returns-clause-stay : goal.returns-clause-stay
 returns-clause-stay g c = staying_on c.self.view_is c.remove.ensures.kept.stay
+
+pub remove_refusal-requires : goal.remove_refusal-requires
+remove_refusal-requires g c = grind arith
+
+pub remove-requires-clause-there : goal.remove-requires-clause-there
+remove-requires-clause-there g c = grind arith
+
+pub remove-requires-clause-held : goal.remove-requires-clause-held
+remove-requires-clause-held g c = grind arith

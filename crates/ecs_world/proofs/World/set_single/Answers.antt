@@ -1,3 +1,4 @@
+use Rattle.std.proofs.lemmas.Grind.{common_steps}
 use Rattle.std.proofs.Common.{Bool, [], ◌∷◌, take, length, refl, sym, ap, subst, ◌∙◌, arith, if◌then◌else◌}
 use Rattle.ecs_archetypes.specs.Housing.{holdings_of}
 use Rattle.std.proofs.lemmas.List.{length-take-le}
@@ -156,3 +157,27 @@ returns-clause-goes_on g c = going_on c.self.view_is c.put.ensures.kept.goes_on
 
 pub returns-clause-stay : goal.returns-clause-stay
 returns-clause-stay g c = staying_on c.self.view_is c.put.ensures.kept.stay
+
+pub judge_single-requires-clause-alone : goal.judge_single-requires-clause-alone
+judge_single-requires-clause-alone g c = grind arith
+
+pub judge_single-requires-clause-alive : goal.judge_single-requires-clause-alive
+judge_single-requires-clause-alive g c = grind arith
+
+pub slice_bounds-buffer-end : goal.slice_bounds-buffer-end
+slice_bounds-buffer-end g c = grind arith
+
+pub slice_bounds-bytes-end : goal.slice_bounds-bytes-end
+slice_bounds-bytes-end g c = grind (arith, common_steps)
+
+pub put-requires-clause-there : goal.put-requires-clause-there
+put-requires-clause-there g c = grind arith
+
+pub put-requires-clause-held : goal.put-requires-clause-held
+put-requires-clause-held g c = grind arith
+
+pub put-requires-clause-data : goal.put-requires-clause-data
+put-requires-clause-data g c = grind (arith, common_steps)
+
+pub put-requires-clause-small : goal.put-requires-clause-small
+put-requires-clause-small g c = grind (arith, common_steps)

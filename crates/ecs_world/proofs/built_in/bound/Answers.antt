@@ -1,3 +1,4 @@
+use Rattle.std.proofs.lemmas.Grind.{elements}
 use Rattle.std.proofs.Common.{refl, sym, ◌∙◌, arith}
 use Rattle.ecs_world.proofs.AcceptedCommands.{on_ok}
 use Rattle.ecs_world.proofs.FirstBuiltIns.{first_none, first_unnamed, named_all, named_step}
@@ -19,3 +20,6 @@ bind-requires g c = first_unnamed c.loop-name.names c.loop-name.count c.loop-nam
 
 pub returns : goal.returns
 returns g c = named_all c.args.list.now c.loop-name.names c.loop-name.count c.loop-name.name-index c.loop-name.invariant.0 c.requires c.loop-name-test.false c.loop-name.auto.name-index-end c.loop-name.invariant.1
+
+pub overflow_add-count : goal.overflow_add-count
+overflow_add-count g c = grind (arith, elements)

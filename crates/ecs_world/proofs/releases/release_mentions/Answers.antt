@@ -1,5 +1,5 @@
 -- What mentions an entity goes in three steps.
-use Rattle.component_index.specs.Patterns.{matches}
+use Rattle.id_pattern.specs.Patterns.{matches}
 use Rattle.ecs_world.proofs.ReleasedTables.{AreLeft, left_matched, left_mentions, no_rows, pairs_mention, pairs_of, pairs_to, plain_mentions, plain_of, targets_mention, unheld_still}
 use Rattle.ecs_world.proofs.releases.release_mentions.Goals as goal
 
