@@ -1,12 +1,14 @@
 -- What is read of a world is of one view.
-use Rattle.std.proofs.Common.{◌≡◌, ◌≢◌, ◌↔◌, ℕ, IsTrue, Bool, true, false, cond, List, [], flat_map, refl, sym, ap, subst, inl, inr, arith}
+use Rattle.std.proofs.Common.{IsSome, ◌≡◌, ◌≢◌, ◌↔◌, ℕ, IsTrue, Bool, true, false, cond, List, [], flat_map, refl, sym, ap, subst, inl, inr, arith}
 use Rattle.std.specs.List.{AllPairs, Contains}
 use Rattle.ecs_id.specs.Id.{Id}
 use Rattle.ecs_id.specs.declared.TableKey.{TableKey}
-use Rattle.component_index.specs.declared.pattern.Pattern.{Pattern}
-use Rattle.component_index.specs.Patterns.{matches}
+use Rattle.id_pattern.specs.declared.Pattern.{Pattern}
+use Rattle.id_pattern.specs.Patterns.{matches}
 use Rattle.std.specs.List.{list_any}
-use Rattle.ecs_archetypes.specs.Housing.{IsHoused}
+use Rattle.ecs_archetypes.specs.Housing.{Housing, IsHoused}
+use Rattle.ecs_world.specs.Standing.{IsGraphOf}
+use Rattle.table_store.specs.Store.{table_at}
 use Rattle.ecs_archetypes.specs.Scans.{HaveRows}
 use Rattle.ecs_archetypes.specs.Linked.{AreLinked, AreListsOf, Linked, ids_at_index, rows_under, tables_under}
 use Rattle.ecs_archetypes.specs.Linked.{indexes as live_in}
@@ -18,13 +20,16 @@ use Rattle.rel_traits.specs.Sees.{Sees}
 use Rattle.plan_steps.specs.Factual.{IsFactual}
 use Rattle.plan_steps.specs.Reading.{Reading, indexes}
 use Rattle.query_meaning.specs.Variables.{contains}
+use Rattle.query_meaning.proofs.Lists.{In, In-flat_map, In-flat_map_from}
 use Rattle.query_meaning.proofs.Worlds.{worlds_have_no_repeats}
+use Rattle.plan_steps.proofs.Members.{member}
 use Rattle.rel_travel.specs.Coming.{above_list, below_list}
 use Rattle.rel_travel.specs.Holders.{holders}
 use Rattle.rel_travel.proofs.Lists as lists
-use Rattle.world_facts.specs.Shown.{Shown, all_above, all_below, reading_of, standing_in}
+use Rattle.world_facts.specs.Shown.{AreRemembered, Shown, all_above, all_below, reading_of, standing_in}
 use Rattle.world_facts.proofs.LiveTargets.{contains_tells, not_contained, reach_ends}
-use Rattle.world_facts.proofs.EntityRows.{one_table, row_once, rows_once, same_ids, same_peers, same_rows}
+use Rattle.world_facts.proofs.EntityRows.{contained, each_once, live_stands, one_table, row_once, rows_live, rows_once, same_ids, same_peers, same_rows}
+use Rattle.world_facts.proofs.Tables.{apart}
 
 module _ (l : Linked) (linked : AreLinked l.housing l.size) (sound : IsHoused l.housing) (rows : HaveRows l.housing) (are_lists : AreListsOf l.housing l.lists)
     (all : (p : Pattern) (y : ℕ) → Contains (flat_map (rows_under l) (tables_under l p)) y ↔ Contains (holders (live_in l) (ids_at_index l) p) y) where
@@ -47,6 +52,26 @@ module _ (l : Linked) (linked : AreLinked l.housing l.size) (sound : IsHoused l.
         λ h. passes.0 ((all p e).0 (subst (λ xs. Contains xs e) (listed_is p) h)),
         λ h. subst (λ xs. Contains xs e) (sym (listed_is p)) ((all p e).1 (passes.1 h)),
       )
+
+  -- ---- all tables
+  every_is : (tables : List TableKey) → flat_map (λ k. indexes (standing_in l k)) tables ≡ flat_map (rows_under l) tables
+  every_is tables = ap (λ (f : TableKey → List ℕ). flat_map f tables) (λ i k. same_rows l k i)
+
+  module _ (tables : List TableKey) (are : AreRemembered (l.housing).tables tables) where
+    every_once : AllPairs (λ a b. a ≢ b) (flat_map (λ k. indexes (standing_in l k)) tables)
+    every_once = subst (λ xs. AllPairs (λ a b. a ≢ b) xs) (sym (every_is tables)) (each_once l sound rows tables (apart tables are.rising))
+
+    every_exactly : ((e : ℕ) → Contains entities e → (k : TableKey) × IsSome (table_at (l.housing).tables k) × Contains (rows_under l k) e)
+        → (e : ℕ) → Contains (flat_map (λ k. indexes (standing_in l k)) tables) e ↔ Contains entities e
+    every_exactly stands e = (
+      λ h.
+          let k = In-flat_map_from (rows_under l) tables e (member (flat_map (rows_under l) tables) e (subst (λ xs. Contains xs e) (every_is tables) h)) in
+          rows_live l sound rows k.0 e (contained (rows_under l k.0) e k.2),
+      λ h.
+          let k = stands e h in
+          subst (λ xs. Contains xs e) (sym (every_is tables))
+          (contained (flat_map (rows_under l) tables) e (In-flat_map (rows_under l) tables k.0 e (member tables k.0 (are.listed k.0 k.1)) (member (rows_under l k.0) e k.2))),
+    )
 
   -- ---- what a search gives
   alive_at_once : (b : Bool) (xs : List ℕ) → AllPairs (λ a b. a ≢ b) xs → AllPairs (λ a b. a ≢ b) (cond b xs [])
@@ -96,7 +121,8 @@ module _ (l : Linked) (linked : AreLinked l.housing l.size) (sound : IsHoused l.
 
 module _ (s : Shown) (linked : AreLinked (s.links).housing (s.links).size) (sound : IsHoused (s.links).housing) (rows : HaveRows (s.links).housing) (are_lists : AreListsOf (s.links).housing (s.links).lists)
     (all : (p : Pattern) (y : ℕ) → Contains (flat_map (rows_under s.links) (tables_under s.links p)) y ↔ Contains (holders (live_in s.links) (ids_at_index s.links) p) y)
-    (sees : Sees (s.world).state (live_in s.links) (ids_at_index s.links)) where
+    (sees : Sees (s.world).state (live_in s.links) (ids_at_index s.links)) (are : AreRemembered ((s.links).housing).tables s.every) (same : ((s.links).housing).tables ≡ (s.world).tables)
+    (g : Housing) (is : IsGraphOf s.world g) (housed : IsHoused g) where
   abbrev w : View
   w = view_of (s.world).state
 
@@ -113,6 +139,8 @@ module _ (s : Shown) (linked : AreLinked (s.links).housing (s.links).size) (soun
       (record {
         links = linked;
         no_repeats = subst HasNoRepeats (sym shown_is) (worlds_have_no_repeats (s.world).state sees.sound);
+        every_once = every_once l linked sound rows are_lists all s.every are;
+        every_exactly = every_exactly l linked sound rows are_lists all s.every are (λ e h. live_stands s.world g is housed l same e (subst (λ es. Contains es e) (sym sees.live_are) h));
         listed_once = listed_once l linked sound rows are_lists all;
         listed_exactly = listed_exactly l linked sound rows are_lists all;
         standing_once = λ k. subst (λ xs. AllPairs (λ a b. a ≢ b) xs) (sym (same_rows l k)) (row_once l sound rows k);

@@ -18,7 +18,7 @@ use Rattle.world_facts.specs.Kept.{KeepsTables}
 use Rattle.world_facts.specs.Shown.{Shown}
 
 -- tables of rising serials are apart
-apart : (tables : List TableKey) → IsStrictlySortedBy nat_cmp (map (λ k. k.serial) tables) → AllPairs (λ a b. a ≢ b) tables
+pub apart : (tables : List TableKey) → IsStrictlySortedBy nat_cmp (map (λ k. k.serial) tables) → AllPairs (λ a b. a ≢ b) tables
 apart tables rising i j d low high same =
     let serial : TableKey → ℕ = λ k. k.serial in
     let long : j < length (map serial tables) = omega (arith, length-map tables serial, high) in

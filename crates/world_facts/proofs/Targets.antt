@@ -1,9 +1,9 @@
 -- The targets of a relationship among an entity's ids, gone through one after another.
 use Rattle.std.proofs.Common.{◌≡◌, ℕ, ◌==◌, Bool, true, false, true≢false, List, [], ◌∷◌, Some, refl, sym, arith}
 use Rattle.std.specs.List.{Contains, list_any}
-use Rattle.component_index.specs.declared.pattern.Part.TheVariants.{Any, Is}
-use Rattle.component_index.specs.declared.pattern.Pattern.{Pattern}
-use Rattle.component_index.specs.Patterns.{matches}
+use Rattle.id_pattern.specs.declared.Part.TheVariants.{Any, Is}
+use Rattle.id_pattern.specs.declared.Pattern.{Pattern}
+use Rattle.id_pattern.specs.Patterns.{matches}
 use Rattle.ecs_id.specs.Id.{Id, pair, plain}
 use Rattle.ecs_model.specs.Links.{targets_in}
 use Rattle.world_facts.specs.Climbing.{targets_as}

@@ -7,8 +7,8 @@ use Rattle.std.specs.Cmp.{nat_cmp_total}
 use Rattle.std.specs.FinMap.{nat_cmp-IsAntisymmetric}
 use Rattle.ecs_world.proofs.States.{copied}
 use Rattle.ecs_id.specs.Id.{Id}
-use Rattle.component_index.specs.declared.pattern.Pattern.{Pattern}
-use Rattle.component_index.specs.Patterns.{matches}
+use Rattle.id_pattern.specs.declared.Pattern.{Pattern}
+use Rattle.id_pattern.specs.Patterns.{matches}
 use Rattle.component_index.proofs.ListedLemmas.{and_all}
 use Rattle.ecs_archetypes.specs.Linked.{Linked, ids_at_index, indexes, rows_under, tables_under}
 use Rattle.ecs_model.specs.Links.{AreLinks, IsReached, ancestor_line, is_reflexive, is_transitive, reaches}

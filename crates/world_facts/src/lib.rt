@@ -10,10 +10,10 @@ mod climb;
 pub mod laws;
 
 use crate::climb::first_up;
-use component_index::{ListedKey, Pattern};
-use ecs_id::{EntityId, Id, TableKey};
+use ecs_id::{EntityId, Id, ListedKey, TableKey};
 use ecs_model::built_ins::REFLEXIVE;
 use ecs_world::{Links, World};
+use id_pattern::Pattern;
 use plan_steps::Facts;
 use rel_travel::{
     Graph, Holders, Known, Scratch, Ways, above, below, known_depth, known_reaches, pull, reaches,
@@ -29,17 +29,19 @@ use std::marker::Model;
 pub struct WorldFacts<'w, A: Allocator> {
     world: &'w World<A>,
     links: Links<'w, A>,
+    /// The keys of all tables, and perhaps of some that were released.
+    every: &'w [ListedKey],
 }
 
 impl<'w, A: Allocator> Model for WorldFacts<'w, A> {
     ghost use Rattle.ecs_world.specs.Standing.{IsLinksOf};
-    ghost use Rattle.world_facts.specs.Shown.{Shown};
+    ghost use Rattle.world_facts.specs.Shown.{AreRemembered, Shown};
 
     ghost Value = { Shown };
 
-    ghost view = { λ f. record { world = f.world.now; links = f.links } };
+    ghost view = { λ f. record { world = f.world.now; links = f.links; every = f.every.now } };
 
-    ghost invariant = { λ f. IsLinksOf f.world.now f.links };
+    ghost invariant = { λ f. IsLinksOf f.world.now f.links × AreRemembered f.links.housing.tables f.every.now };
 }
 
 impl<'w, A: Allocator> WorldFacts<'w, A> {
@@ -48,7 +50,12 @@ impl<'w, A: Allocator> WorldFacts<'w, A> {
         ensures { result.world ≡ world.now }
     {
         let links = world.links();
-        WorldFacts { world, links }
+        let every = links.tables().store().remembered();
+        WorldFacts {
+            world,
+            links,
+            every,
+        }
     }
 
     /// Law: the tables that a query lists in the world are kept for it, as runs over given tables ask. The call does
@@ -99,9 +106,10 @@ impl<A: Allocator> Facts for WorldFacts<'_, A> {
         let _ = self.links.size();
         self.links.lists_holders();
         let tables = self.links.tables();
-        // What is known of each row and of each place.
+        // What is known of each row and of each place, and that each live entity has one.
         let _ = tables.store();
         let _ = tables.index();
+        let _ = self.world.graph().index();
     }
 
     fn size(&self) -> u32 {
@@ -118,6 +126,10 @@ impl<A: Allocator> Facts for WorldFacts<'_, A> {
 
     fn has(&self, entity: u32, id: Id) -> bool {
         self.links.ids(entity).contains(&id)
+    }
+
+    fn every_table(&self) -> &[ListedKey] {
+        self.every
     }
 
     fn tables_of(&self, pattern: Pattern) -> &[ListedKey] {

@@ -6,4 +6,4 @@ use Rattle.world_facts.proofs.WorldFactsFacts.has.Goals as goal
 pub returns : goal.returns
 returns g c =
     rw (← c.self.view_is)
-    (c.contains.ensures.value ∙ ap (λ (ids : List Id). list_any (λ i. id_eq i c.args.id) ids) (c.ids.ensures ∙ sym (c.self.invariant.sees.ids_are c.args.entity)))
+    (c.contains.ensures.value ∙ ap (λ (ids : List Id). list_any (λ i. id_eq i c.args.id) ids) (c.ids.ensures ∙ sym (c.self.invariant.0.sees.ids_are c.args.entity)))

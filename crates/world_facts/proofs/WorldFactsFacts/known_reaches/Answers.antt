@@ -13,4 +13,4 @@ known_reaches-requires-clause-ways g c =
     let known = c.args.ways.now in
     let r = c.args.relationship in
     let seen = subst (λ (s : Shown). AreWays (reading_of s).view.entities (reading_of s).view.ids r known) (sym c.self.view_is) c.requires.ways in
-    subst (λ ids. AreWays (indexes links) ids r known) (ids_same c.self.invariant.sees) (subst (λ live. AreWays live (ids_of state) r known) c.self.invariant.sees.live_are seen)
+    subst (λ ids. AreWays (indexes links) ids r known) (ids_same c.self.invariant.0.sees) (subst (λ live. AreWays live (ids_of state) r known) c.self.invariant.0.sees.live_are seen)
