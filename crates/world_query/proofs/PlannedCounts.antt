@@ -1,6 +1,6 @@
 -- The tables that the planner counted in a world are as many as a run reads there, so the plan is led by a list that is the shortest of those that the run reads.
 use Rattle.std.proofs.Common.{◌≡◌, ℕ, List, [], ◌∷◌, length, flat_map, refl, sym, ap, ◌∙◌, subst}
-use Rattle.component_index.specs.declared.pattern.Pattern.{Pattern}
+use Rattle.id_pattern.specs.declared.Pattern.{Pattern}
 use Rattle.ecs_model.specs.rows.View.{view_of}
 use Rattle.ecs_world.specs.Standing.{Standing}
 use Rattle.plan_steps.specs.Reading.{Reading}

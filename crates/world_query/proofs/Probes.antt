@@ -13,7 +13,7 @@ use Rattle.std.proofs.lemmas.List.FromFn.{length-range_with_len}
 use Rattle.std.proofs.lemmas.List.Sums.{count_by-le-length, length-filter, sum_by-append, sum_by-cons}
 use Rattle.std.proofs.lemmas.Option.{get_or_from_slice_get, slice_get_within}
 use Rattle.ecs_id.specs.declared.TableKey.{TableKey}
-use Rattle.component_index.specs.declared.pattern.Part.TheVariants as part
+use Rattle.id_pattern.specs.declared.Part.TheVariants as part
 use Rattle.ecs_model.proofs.Members.{in_flat_map}
 use Rattle.ecs_model.specs.rows.Level.{top}
 use Rattle.ecs_model.specs.rows.Rows.{level_mentions}
@@ -37,6 +37,7 @@ use Rattle.query_plan.specs.Simple.{has_terms, is_leading}
 use Rattle.plan_steps.specs.Instructions.{cut, cuts, entry_instructions, hit_test, instructions_of, is_fixed, item_takes_this, moves_of, name_of, pattern_of, takes_this, term_test, variable_of, with_cuts}
 use Rattle.plan_steps.specs.declared.instruction.Instruction.{Instruction}
 use Rattle.plan_steps.specs.declared.instruction.Instruction.TheVariants.{Walk, Match, Keep}
+use Rattle.plan_steps.specs.declared.instruction.Lists.TheVariants.{Of}
 use Rattle.plan_steps.specs.declared.instruction.Source.TheVariants.{Tables}
 use Rattle.plan_steps.specs.declared.instruction.Test.{Test}
 use Rattle.plan_steps.specs.declared.instruction.Test.TheVariants.{Hit, HitAbove, Same, Differ, Reaches, Lacks}
@@ -229,8 +230,8 @@ leads (Some (simple level (equal w r))) h = absurd (false≢true h)
 leads (Some (simple level (differ w r))) h = absurd (false≢true h)
 leads (Some (group level own inner)) h = absurd (false≢true h)
 
-scanned : (level : ℕ) (t : Term) → asks_one_id t ≡ true → entry_instructions mode.Scan (Some (simple level (must t))) ≡ Walk (variable_of t.source) (Tables (pattern_of t)) ∷ []
-scanned level t h = ap (λ b. Walk (variable_of t.source) (Tables (pattern_of t)) ∷ (if b then [] else Match t.source (pattern_of t) ∷ [])) (fixed t h)
+scanned : (level : ℕ) (t : Term) → asks_one_id t ≡ true → entry_instructions mode.Scan (Some (simple level (must t))) ≡ Walk (variable_of t.source) (Tables (Of (pattern_of t))) ∷ []
+scanned level t h = ap (λ b. Walk (variable_of t.source) (Tables (Of (pattern_of t))) ∷ (if b then [] else Match t.source (pattern_of t) ∷ [])) (fixed t h)
 
 -- `$this` has its entity after it
 first_takes : (r : Ref) (b : Bool) → is_first r ≡ true → not (is_other 0 r && b) ≡ true
@@ -240,11 +241,11 @@ first_takes Any b h = absurd (false≢true h)
 first_takes AnyOnce b h = absurd (false≢true h)
 
 -- the steps of a query that a term leads: `$this` is judged after its items
-led_steps : (q : Query) (first : ℕ) (t : Term) (js : List ℕ) → ((k : ℕ) → is_plain (entry_at q k) ≡ true) → entry_instructions mode.Scan (entry_at q first) ≡ Walk (variable_of t.source) (Tables (pattern_of t)) ∷ []
+led_steps : (q : Query) (first : ℕ) (t : Term) (js : List ℕ) → ((k : ℕ) → is_plain (entry_at q k) ≡ true) → entry_instructions mode.Scan (entry_at q first) ≡ Walk (variable_of t.source) (Tables (Of (pattern_of t))) ∷ []
     → takes_this q (Deal mode.Scan first) ≡ true → instructions_of q (Deal mode.Scan first ∷ map (Deal mode.Check) js) ≡ walk_and_judge (variable_of t.source) (pattern_of t) (flat_map (λ j. judged_of (entry_at q j)) js ++ map one (cuts q))
 led_steps q first t js plain scan taken =
     let items : List Judged = flat_map (λ j. judged_of (entry_at q j)) js in
-    let walk : Instruction = Walk (variable_of t.source) (Tables (pattern_of t)) in
+    let walk : Instruction = Walk (variable_of t.source) (Tables (Of (pattern_of t))) in
     let checks : List Step = map (Deal mode.Check) js in
     split_is q (Deal mode.Scan first ∷ checks) 0
     ∙ (λ k. scan k ++ (if taken k then with_cuts q (moves_of q checks) else cut_from q checks 0))
