@@ -3,6 +3,7 @@ pub mod Coming
 pub mod Fields
 pub mod Found
 pub mod Probes
+pub mod Starts
 pub mod Tabled
 pub mod Values
 pub mod Ways
