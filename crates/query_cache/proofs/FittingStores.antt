@@ -6,7 +6,7 @@ use Rattle.std.specs.List.Sorted.{IsStrictlySortedBy}
 use Rattle.std.specs.Ordering.{nat_cmp}
 use Rattle.ecs_id.specs.Id.{Id}
 use Rattle.ecs_id.specs.declared.TableKey.{TableKey}
-use Rattle.component_index.specs.declared.pattern.Pattern.{Pattern}
+use Rattle.id_pattern.specs.declared.Pattern.{Pattern}
 use Rattle.ecs_table.specs.Archetype.{Archetype}
 use Rattle.table_store.specs.Going.{TablesGoOn}
 use Rattle.table_store.specs.Store.{Store, ids_at, table_at}

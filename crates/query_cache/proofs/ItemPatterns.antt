@@ -4,8 +4,8 @@ use Rattle.std.specs.List.{Contains, list_any}
 use Rattle.std.specs.Option.{option_map_or}
 use Rattle.std.proofs.lemmas.Bool.Decides.{nat_tests}
 use Rattle.std.proofs.lemmas.Bool.{and_parts}
-use Rattle.component_index.specs.Patterns.{matches, takes}
-use Rattle.component_index.specs.declared.pattern.Pattern.{Pattern}
+use Rattle.id_pattern.specs.Patterns.{matches, takes}
+use Rattle.id_pattern.specs.declared.Pattern.{Pattern}
 use Rattle.ecs_id.specs.Id.{Id, plain, pair}
 use Rattle.ecs_id.specs.declared.TableKey.{TableKey}
 use Rattle.ecs_model.specs.rows.Level.{Level, done, also, unless, top}

@@ -6,8 +6,7 @@ ghost use Rattle.std.specs.Int.{bit_at};
 ghost use Rattle.query_cache.specs.TableList.{IsBlock, key_at, keeps, keys_of};
 ghost use Rattle.table_store.specs.Store.{table_at};
 
-use component_index::ListedKey;
-use ecs_id::TableKey;
+use ecs_id::{ListedKey, TableKey};
 use std::alloc::{AllocError, Allocator, Global};
 use table_store::TableStore;
 

@@ -4,8 +4,7 @@ ghost use Rattle.std.specs.Prelude.{◌≡◌, ◌++◌, ◌∷◌, [], All, OnE
 ghost use Rattle.query_cache.specs.TableList.{IsBlock, keeps, keys_in};
 
 use crate::table_block::{Block, Keep};
-use component_index::ListedKey;
-use ecs_id::TableKey;
+use ecs_id::{ListedKey, TableKey};
 use std::alloc::{AllocError, Allocator, Global};
 use std::marker::Model;
 

@@ -7,9 +7,9 @@ use Rattle.std.proofs.lemmas.Bool.{and_parts, not-true, or_left, or_right}
 use Rattle.std.proofs.lemmas.Bool.Decides.{Decides-eqb}
 use Rattle.std.proofs.lemmas.List.Folds.{list_any-append}
 use Rattle.ecs_id.specs.Id.{Id, plain, pair}
-use Rattle.component_index.specs.declared.pattern.Part.{Part}
-use Rattle.component_index.specs.declared.pattern.Part.TheVariants as part
-use Rattle.component_index.specs.declared.pattern.Pattern.{Pattern}
+use Rattle.id_pattern.specs.declared.Part.{Part}
+use Rattle.id_pattern.specs.declared.Part.TheVariants as part
+use Rattle.id_pattern.specs.declared.Pattern.{Pattern}
 use Rattle.ecs_model.specs.declared.watches.StoredKind.TheVariants.{Kept, Monitor, OnAdd, OnRemove, OnSet}
 use Rattle.ecs_model.specs.rows.Rows.{fits, matches}
 use Rattle.ecs_model.specs.stored.Watches.{matches_term, only_term}
@@ -30,7 +30,7 @@ use Rattle.watch_index.specs.declared.occasion.Way.TheVariants.{Moves, IsWritten
 use Rattle.watch_index.specs.Laws.{WhomChangesConcernTheyLeadTo, meets}
 use Rattle.watch_index.specs.Listed.{is_among}
 use Rattle.watch_index.specs.Occasions.{closed_occasions, facts_of, happening, moved, of_all, of_monitors, pairs_of, part_of, pattern_of, term_occasions, up_occasions}
-use Rattle.component_index.specs.SamePattern.{pattern_eq}
+use Rattle.id_pattern.specs.SamePattern.{pattern_eq}
 use Rattle.watch_index.specs.SameOccasion.{occasion_eq, same_occasion}
 
 -- ---- occasions and patterns are themselves

@@ -7,7 +7,7 @@ use Rattle.std.proofs.lemmas.Bool.{or_right}
 use Rattle.std.proofs.lemmas.List.{take_all}
 use Rattle.std.proofs.lemmas.List.Folds.{list_any_more}
 use Rattle.component_index.proofs.ListedLemmas.{or_none, and_all, added_at, dropped_at, apart_from, or_steps, and_steps, gone_twice, any-take}
-pub use Rattle.component_index.proofs.ListedLemmas.{on_err}
+pub use Rattle.id_pattern.proofs.Errors.{on_err}
 use Rattle.watch_index.specs.declared.occasion.Occasion.{Occasion}
 use Rattle.watch_index.specs.Listed.{Adds, AreSame, Drops, Keeps, Listings, has, is_listed}
 use Rattle.watch_index.specs.SameOccasion.{occasion_eq, same_occasion}

@@ -1,7 +1,7 @@
 -- The marks of the occasions that are listened for: 4,096 bits, so several occasions may share one.
 use Rattle.std.specs.Prelude.{ℕ, ◌+◌, ◌*◌, ◌/◌, ◌%◌, Option, Some, None}
-use Rattle.component_index.specs.declared.pattern.Part.{Part}
-use Rattle.component_index.specs.declared.pattern.Part.TheVariants.{Is, Any}
+use Rattle.id_pattern.specs.declared.Part.{Part}
+use Rattle.id_pattern.specs.declared.Part.TheVariants.{Is, Any}
 use Rattle.watch_index.specs.declared.occasion.Occasion.{Occasion}
 use Rattle.watch_index.specs.declared.occasion.Occasion.TheVariants.{Life, AskedByAll, Fact}
 use Rattle.watch_index.specs.declared.occasion.Way.{Way}

@@ -1,6 +1,6 @@
 -- When two occasions are equal.
 use Rattle.std.proofs.Common.{◌≡◌, Bool, true, true≢false, refl, sym, ap}
-use Rattle.component_index.specs.SamePattern.{same_pattern}
+use Rattle.id_pattern.specs.SamePattern.{same_pattern}
 use Rattle.watch_index.specs.declared.occasion.Occasion.{Occasion}
 use Rattle.watch_index.specs.declared.occasion.Occasion.TheVariants.{Life, AskedByAll, Fact}
 use Rattle.watch_index.specs.declared.occasion.Way.TheVariants.{Moves, IsWritten}

@@ -8,9 +8,9 @@ ghost use Rattle.watch_index.specs.declared.occasion.Way.TheVariants.{IsWritten}
 
 use crate::index::WatchIndex;
 use crate::occasion::{Occasion, Way};
-use component_index::{Part, Pattern};
 use ecs_id::Id;
 use ecs_model::FactKey;
+use id_pattern::{Part, Pattern};
 use short_list::ShortNumbers;
 use std::alloc::{AllocError, Allocator};
 use watch_concerns::is_asked_by_all;

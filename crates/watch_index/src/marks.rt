@@ -6,7 +6,7 @@ ghost use Rattle.watch_index.specs.Marks.{mark_of, number_of, second_number, way
 ghost use Rattle.watch_index.specs.declared.occasion.Occasion.{Occasion as Awaited};
 
 use crate::occasion::{Occasion, Way};
-use component_index::{Part, Pattern};
+use id_pattern::{Part, Pattern};
 
 /// Marks of occasions, where several occasions may share one. If the mark of an occasion isn't set, no stored query
 /// listens for it.

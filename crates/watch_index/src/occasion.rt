@@ -1,6 +1,6 @@
 //! The kinds of change that a stored query may listen for.
 
-use component_index::Pattern;
+use id_pattern::Pattern;
 
 /// How a fact changes.
 #[derive(Clone, Copy, Debug, PartialEq, Eq, Hash)]

@@ -5,8 +5,8 @@ ghost use Rattle.watch_concerns.specs.Anchored.{is_anchored};
 ghost use Rattle.watch_index.specs.Occasions.{occasions_of, of_monitors, pairs_of, part_of, pattern_of, term_occasions};
 
 use crate::occasion::{Occasion, Way};
-use component_index::{Part, Pattern};
 use ecs_model::watches::StoredKind;
+use id_pattern::{Part, Pattern};
 use query_check::Query;
 use query_model::query::{Ref, Term};
 use std::alloc::{AllocError, Allocator};

@@ -333,8 +333,8 @@ fn rows_by_all<A: Allocator + Copy>(
     let before = &question.query.these;
     let these = whole_rows(alloc, question.world, &question.query.plan, compared)?;
     let left = before.without(alloc, &these)?;
-    let entered = these.without(alloc, before)?;
     rows.left = ShortList::from_vec(left);
+    let entered = these.without(alloc, before)?;
     rows.entered = ShortList::from_vec(entered);
     rows.these = Some(these);
     Ok(())

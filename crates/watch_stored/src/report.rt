@@ -36,7 +36,6 @@ pub struct Searches<A: Allocator> {
 }
 
 /// The report of the stored queries on one command. Its room is used again for the next command.
-#[derive(Drop)]
 pub struct Report<A: Allocator> {
     /// The events, in order.
     pub events: Vec<Event<A>, A>,
@@ -44,6 +43,16 @@ pub struct Report<A: Allocator> {
     pub rows: Vec<(usize, RowsAfter<A>), A>,
     /// The searches by which these rows are found.
     pub searches: Searches<A>,
+}
+
+impl<A: Allocator> Drop for Report<A> {
+    fn drop(self) {
+        let Self {
+            events: _,
+            rows: _,
+            searches: _,
+        } = self;
+    }
 }
 
 impl<A: Allocator + Copy> Report<A> {

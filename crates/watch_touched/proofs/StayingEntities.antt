@@ -20,7 +20,7 @@ use Rattle.ecs_model.proofs.steps.AddedSets.{in_map}
 use Rattle.ecs_model.proofs.steps.Facts.{held_listed, listed_held}
 use Rattle.ecs_model.proofs.steps.LivingIds.{are_links, refuted}
 use Rattle.ecs_model.proofs.LivePairs.{of_pair}
-use Rattle.component_index.specs.Patterns.{matches}
+use Rattle.id_pattern.specs.Patterns.{matches}
 use Rattle.query_model.specs.Query.{Query}
 use Rattle.query_meaning.specs.Sound.{IsSound}
 use Rattle.watch_concerns.specs.Anchored.{is_anchored}

@@ -4,10 +4,10 @@ use Rattle.std.specs.Prelude.{◌&&◌, ◌++◌, not, filter, flat_map, map, if
 use Rattle.std.specs.List.{Contains, list_any}
 use Rattle.std.proofs.lemmas.Bool.{and_parts, and_from, eqb-true, false≢true}
 use Rattle.std.proofs.lemmas.Option.{same_Some}
-use Rattle.component_index.specs.Patterns.{matches}
-use Rattle.component_index.specs.declared.pattern.Part.{Part}
-use Rattle.component_index.specs.declared.pattern.Part.TheVariants.{Is}
-use Rattle.component_index.specs.declared.pattern.Pattern.{Pattern}
+use Rattle.id_pattern.specs.Patterns.{matches}
+use Rattle.id_pattern.specs.declared.Part.{Part}
+use Rattle.id_pattern.specs.declared.Part.TheVariants.{Is}
+use Rattle.id_pattern.specs.declared.Pattern.{Pattern}
 use Rattle.ecs_id.specs.Id.{Id, plain, pair, second_of}
 use Rattle.ecs_model.specs.World.{WorldState, Key, entities, ids_of}
 use Rattle.ecs_model.proofs.Members.{any_passes, eq_itself, filtered, passing}

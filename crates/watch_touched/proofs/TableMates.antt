@@ -4,7 +4,7 @@ use Rattle.std.specs.Prelude.{filter, flat_map, option_map, unwrap_or}
 use Rattle.std.specs.List.{Contains, list_all, list_any}
 use Rattle.std.specs.Option.{option_map_or}
 use Rattle.std.proofs.lemmas.Option.{slice_get-get_or}
-use Rattle.component_index.specs.Patterns.{matches}
+use Rattle.id_pattern.specs.Patterns.{matches}
 use Rattle.ecs_id.specs.Id.{Id}
 use Rattle.ecs_id.specs.declared.EntityId.{EntityId}
 use Rattle.ecs_id.specs.declared.Place.{Place}

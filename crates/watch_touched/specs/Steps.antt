@@ -1,7 +1,7 @@
 -- One step back: a term leads from the entity of a variable to that of a later one, and what is kept of the query
 -- judges it. And the entities that may be `$this` and from which an entity is reached.
 use Rattle.std.specs.Prelude.{ℕ, ◌==◌, Bool, true, not, ◌&&◌, ◌||◌, List, [], ◌++◌, filter, flat_map, map, if◌then◌else◌}
-use Rattle.component_index.specs.Patterns.{matches}
+use Rattle.id_pattern.specs.Patterns.{matches}
 use Rattle.ecs_id.specs.Id.{Id}
 use Rattle.ecs_model.specs.steps.Outcomes.{Changed}
 use Rattle.ecs_model.specs.World.{WorldState, Key, ids_of}

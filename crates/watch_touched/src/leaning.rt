@@ -2,16 +2,16 @@
 
 ghost use Rattle.std.specs.Prelude.{◌≡◌, ◌==◌, ◌&&◌, ◌∷◌, [], filter, flat_map, map, OnOk};
 ghost use Rattle.std.specs.List.{list_all, list_any};
-ghost use Rattle.component_index.specs.Patterns.{matches};
+ghost use Rattle.id_pattern.specs.Patterns.{matches};
 ghost use Rattle.ecs_model.specs.World.{WorldState};
 ghost use Rattle.watch_touched.specs.Leaning.{Adds, HasAllBelow, HoldAll, HoldTheirs, IfDone, is_sought, leans};
 ghost use Rattle.watch_touched.specs.Leaning.{pairs_to, standing_in};
 ghost use Rattle.watch_touched.specs.Searches.{is_looked_for, leaners_on};
 
 use crate::sought::{Sought, is_sought};
-use component_index::{ListedKey, Part, Pattern};
-use ecs_id::{EntityId, Id};
+use ecs_id::{EntityId, Id, ListedKey};
 use ecs_world::World;
+use id_pattern::{Part, Pattern};
 use rel_travel::Holders;
 use short_list::ShortList;
 use std::alloc::{AllocError, Allocator};

@@ -3,7 +3,7 @@
 
 ghost use Rattle.std.specs.Prelude.{◌≡◌, ◌+◌, ◌==◌, ◌&&◌, ◌++◌, ◌∷◌, [], false, true, filter, flat_map, map, OnOk};
 ghost use Rattle.std.specs.List.{list_any};
-ghost use Rattle.component_index.specs.Patterns.{matches};
+ghost use Rattle.id_pattern.specs.Patterns.{matches};
 ghost use Rattle.ecs_model.specs.World.{WorldState};
 ghost use Rattle.watch_asked.specs.Asked.{IsAskedBy, any_counts_as};
 ghost use Rattle.watch_touched.specs.Leaning.{Adds, HoldAll, HoldTheirs, IfDone, leaning, leans, pairs_to};
@@ -15,8 +15,7 @@ ghost use Rattle.watch_touched.specs.Steps.{behind_gone, behind_target, found_fr
 
 use crate::leaning::{MOST, MOST_TABLES, are_among, is_among, is_pair_to, push_each};
 use crate::touching::ids_at;
-use component_index::ListedKey;
-use ecs_id::{EntityId, Id};
+use ecs_id::{EntityId, Id, ListedKey};
 use ecs_model::FactKey;
 use ecs_world::{Changes, World};
 use rel_travel::Holders;

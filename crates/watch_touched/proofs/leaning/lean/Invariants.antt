@@ -1,6 +1,6 @@
 use Rattle.std.proofs.Common.{◌≡◌, ◌&&◌, drop}
 use Rattle.std.specs.List.{list_any}
-use Rattle.component_index.specs.Patterns.{matches}
+use Rattle.id_pattern.specs.Patterns.{matches}
 use Rattle.watch_touched.specs.Leaning.{is_sought, pairs_to}
 use Rattle.watch_touched.proofs.leaning.lean.Given as goal
 

@@ -2,7 +2,7 @@ use Rattle.std.specs.Prelude.{◌==◌, false, flat_map, true, if◌then◌else�
 use Rattle.std.proofs.Common.{◌≡◌, ◌<◌, ◌≤◌, [], List, ℕ, ap, arith, get_or, length, subst, sym, ◌∙◌}
 use Rattle.std.proofs.lemmas.Bool.{eqb-true}
 use Rattle.std.proofs.lemmas.Result.{IfOk-weaker}
-use Rattle.component_index.specs.Patterns.{matches}
+use Rattle.id_pattern.specs.Patterns.{matches}
 use Rattle.ecs_id.specs.Id.{Id}
 use Rattle.ecs_model.proofs.steps.LivingIds.{refuted}
 use Rattle.ecs_model.specs.World.{Key}

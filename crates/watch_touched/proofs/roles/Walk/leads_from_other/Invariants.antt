@@ -1,7 +1,7 @@
 use Rattle.std.proofs.Common.{◌≡◌, ◌&&◌, ◌++◌, ◌==◌, drop}
 use Rattle.std.specs.Prelude.{map}
 use Rattle.std.specs.List.{list_any}
-use Rattle.component_index.specs.Patterns.{matches}
+use Rattle.id_pattern.specs.Patterns.{matches}
 use Rattle.watch_asked.specs.Asked.{any_counts_as}
 use Rattle.watch_touched.specs.Leaning.{pairs_to}
 use Rattle.watch_touched.proofs.roles.Walk.leads_from_other.Given as goal

@@ -2,7 +2,7 @@ use Rattle.std.specs.Prelude.{filter, flat_map}
 use Rattle.std.specs.List.{Contains, list_any}
 use Rattle.std.proofs.Common.{◌≡◌, subst, sym, ap, ℕ, List, ◌∙◌}
 use Rattle.std.proofs.lemmas.Result.{IfOk-weaker}
-use Rattle.component_index.specs.Patterns.{matches}
+use Rattle.id_pattern.specs.Patterns.{matches}
 use Rattle.ecs_archetypes.specs.Linked.{rows_under}
 use Rattle.table_store.specs.Store.{Store}
 use Rattle.watch_touched.specs.Leaning.{Adds, HoldTheirs, leaning, leans, standing_in}
