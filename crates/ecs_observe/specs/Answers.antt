@@ -61,21 +61,28 @@ AnswersRows (Err Memory) s name before after = (q : _) × (kept_query s name ≡
 
 -- the rows of a kept query were appended, and a prefix of what may be sent was sent; or no kept query has the name, and
 -- nothing was written or sent
-abbrev pub SendsKept : {T : Type 0} → ℕ → Result T SendRowsError → SessionState → List ℕ → Option (List ℕ) → Option (List ℕ) → List ℕ → List ℕ → Type 0
+abbrev pub SendsKept : {T : Type 0} → ℕ → Result T SendRowsError → SessionState → List ℕ → Option (List ℕ) → Option (List ℕ)
+    → List ℕ → List ℕ → Type 0
 SendsKept most (Ok _) s name old new before after = (q : _) × (kept_query s name ≡ Ok q) × IsSent old new before after (rows_text s.world q)
 SendsKept most (Err (rows.Refused reason)) s name old new before after = (kept_query s name ≡ Err reason) × (after ≡ before) × (new ≡ old)
-SendsKept most (Err (rows.Unsent send.Memory)) s name old new before after = (q : _) × (kept_query s name ≡ Ok q) × StopsSending ⊤ old new before after (rows_text s.world q)
+SendsKept most (Err (rows.Unsent send.Memory)) s name old new before after =
+    (q : _) × (kept_query s name ≡ Ok q) × StopsSending ⊤ old new before after (rows_text s.world q)
 SendsKept most (Err (rows.Unsent send.Write)) s name old new before after =
-    (q : _) × (kept_query s name ≡ Ok q) × StopsSending ⊥ old new before after (rows_text s.world q) × HoldsOneLine (max most (length before)) (lines_of_rows s.world q) after
+    (q : _) × (kept_query s name ≡ Ok q) × StopsSending ⊥ old new before after (rows_text s.world q)
+    × HoldsOneLine (max most (length before)) (lines_of_rows s.world q) after
 
 -- the same of a stored query that was found: it is a kept query, or nothing was written
-abbrev pub SendsRows : {A T : Type 0} → ℕ → Result T SendRowsError → StoredQuery A → WorldState → Option (List ℕ) → Option (List ℕ) → List ℕ → List ℕ → Type 0
+abbrev pub SendsRows : {A T : Type 0} → ℕ → Result T SendRowsError → StoredQuery A → WorldState → Option (List ℕ) → Option (List ℕ)
+    → List ℕ → List ℕ → Type 0
 SendsRows most (Ok _) q w old new before after = (q.kind ≡ Kept) × IsSent old new before after (rows_text w (q.plan).query)
 SendsRows most (Err (rows.Refused reason)) q w old new before after = (q.kind ≢ Kept) × (reason ≡ UnknownQuery) × (after ≡ before) × (new ≡ old)
-SendsRows most (Err (rows.Unsent send.Memory)) q w old new before after = (q.kind ≡ Kept) × StopsSending ⊤ old new before after (rows_text w (q.plan).query)
+SendsRows most (Err (rows.Unsent send.Memory)) q w old new before after =
+    (q.kind ≡ Kept) × StopsSending ⊤ old new before after (rows_text w (q.plan).query)
 SendsRows most (Err (rows.Unsent send.Write)) q w old new before after =
-    (q.kind ≡ Kept) × StopsSending ⊥ old new before after (rows_text w (q.plan).query) × HoldsOneLine (max most (length before)) (lines_of_rows w (q.plan).query) after
+    (q.kind ≡ Kept) × StopsSending ⊥ old new before after (rows_text w (q.plan).query)
+    × HoldsOneLine (max most (length before)) (lines_of_rows w (q.plan).query) after
 
 -- if the calls of a writer were calm, they are faulty after a failed write, and calm after any other answer
 abbrev pub FailsAtSend : {T : Type 0} → Calls → Result T SendRowsError → Calls → Type 0
-FailsAtSend old answer new = IsCalm old → (answer ≡ Err (rows.Unsent send.Write) → IsFaulty new) × (¬ (answer ≡ Err (rows.Unsent send.Write)) → IsCalm new)
+FailsAtSend old answer new =
+    IsCalm old → (answer ≡ Err (rows.Unsent send.Write) → IsFaulty new) × (¬ (answer ≡ Err (rows.Unsent send.Write)) → IsCalm new)

@@ -22,11 +22,14 @@ use Rattle.ecs_observe.specs.declared.errors.SetColumnError.TheVariants.{EventsP
 abbrev pub AreSetIn : Id → Schema → List EntityId → List ℕ → SessionState → SessionState → Type 0
 AreSetIn i fs [] bytes s t = t ≡ s
 AreSetIn i fs (e ∷ es) bytes s t =
-    (u : SessionState) × (carried_out s (SetValue e i (values_in fs (take (size_of fs) bytes))) ≡ Ok (u, None)) × AreSetIn i fs es (drop (size_of fs) bytes) u t
+    (u : SessionState) × (carried_out s (SetValue e i (values_in fs (take (size_of fs) bytes))) ≡ Ok (u, None))
+    × AreSetIn i fs es (drop (size_of fs) bytes) u t
 
 -- the same for the entities of the table under a key, by row
 abbrev pub IsColumnSetIn : Standing → TableKey → Id → List ℕ → SessionState → Type 0
-IsColumnSetIn s k i bytes t = (a : _) × (fs : Schema) × (table_at (s.world).tables k ≡ Some a) × (type_of_id (s.world).state i ≡ Some fs) × AreSetIn i fs a.entities bytes (session_of s) t
+IsColumnSetIn s k i bytes t =
+    (a : _) × (fs : Schema) × (table_at (s.world).tables k ≡ Some a) × (type_of_id (s.world).state i ≡ Some fs)
+    × AreSetIn i fs a.entities bytes (session_of s) t
 
 -- why the values aren't set: events wait; a stored query is a monitor or an observer, which would be notified; or the
 -- world refuses it

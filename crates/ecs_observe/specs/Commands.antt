@@ -4,7 +4,8 @@ use Rattle.ecs_id.specs.declared.EntityId.{EntityId}
 use Rattle.ecs_id.specs.Id.{Id}
 use Rattle.ecs_model.specs.declared.faults.Refusal.{Refusal}
 use Rattle.ecs_model.specs.declared.faults.SessionRefusal.{SessionRefusal}
-use Rattle.ecs_model.specs.Orders.{EntityRef, IdRef, MakeFresh, MakeEntity, MakeComponent, AddTo, SetIn, RemoveFrom, DeleteOne, WorldOrder, command_of, with_both}
+use Rattle.ecs_model.specs.Orders.{EntityRef, IdRef, MakeFresh, MakeEntity, MakeComponent, AddTo, SetIn, RemoveFrom, DeleteOne}
+use Rattle.ecs_model.specs.Orders.{WorldOrder, command_of, with_both}
 use Rattle.ecs_model.specs.World.{WorldState}
 use Rattle.ecs_model.specs.stored.Session.{InWorld, SessionOrder, SessionState, apply}
 use Rattle.ecs_model.specs.stored.Session as session
@@ -50,8 +51,10 @@ FindsBoth w entity id (Ok both) = (f : EntityId → Id → world.Command) → wi
 -- the entity and the id were found, so the session carries out the command with them; or every such command is refused
 -- for them
 abbrev pub FindsIn : SessionState → EntityRef → IdRef → Result (EntityId × Id) SessionRefusal → Type 0
-FindsIn s r i (Ok both) = (f : EntityId → Id → world.Command) (order : WorldOrder) → command_of s.world order ≡ with_both s.world f r i → carried_out s (f both.0 both.1) ≡ apply s (InWorld order)
-FindsIn s r i (Err reason) = (f : EntityId → Id → world.Command) (order : WorldOrder) → command_of s.world order ≡ with_both s.world f r i → apply s (InWorld order) ≡ Err reason
+FindsIn s r i (Ok both) = (f : EntityId → Id → world.Command) (order : WorldOrder) → command_of s.world order ≡ with_both s.world f r i
+    → carried_out s (f both.0 both.1) ≡ apply s (InWorld order)
+FindsIn s r i (Err reason) = (f : EntityId → Id → world.Command) (order : WorldOrder) → command_of s.world order ≡ with_both s.world f r i
+    → apply s (InWorld order) ≡ Err reason
 
 -- the same for an entity that is to be deleted
 abbrev pub FindsOne : SessionState → EntityRef → Result EntityId SessionRefusal → Type 0

@@ -1,5 +1,6 @@
 -- What happens to the lists of kept queries, and to their plans.
-use Rattle.std.specs.Prelude.{◌≡◌, ◌≢◌, ◌⊎◌, ℕ, ◌≤◌, Bool, true, false, not, List, [], ◌∷◌, ◌++◌, Contains, IsTrue, filter, length, map, bytes_eq, Option, Some, None, IfSome, IsSome, option_and_then, option_map, Result, Ok, Err, if◌then◌else◌}
+use Rattle.std.specs.Prelude.{◌≡◌, ◌≢◌, ◌⊎◌, ℕ, ◌≤◌, Bool, true, false, not, List, [], ◌∷◌, ◌++◌, Contains, IsTrue, filter, length, map}
+use Rattle.std.specs.Prelude.{bytes_eq, Option, Some, None, IfSome, IsSome, option_and_then, option_map, Result, Ok, Err, if◌then◌else◌}
 use Rattle.std.specs.List.{find}
 use Rattle.std.specs.Option.{option_map_or}
 use Rattle.ecs_id.specs.declared.TableKey.{TableKey}
@@ -162,7 +163,8 @@ begins_in_list s n = option_map_or (λ p. begins_with_this p.query p.steps) (pla
 abbrev pub PlansAt : List ℕ → Standing → Standing → Type 0
 PlansAt n old new =
     (dated_plan_at new n ≡ dated_plan_at old n)
-    ⊎ ((before : Plan × ℕ) × (after : Plan × ℕ) × (dated_plan_at old n ≡ Some before) × (dated_plan_at new n ≡ Some after) × IsMadeAnew old.world before after)
+    ⊎ ((before : Plan × ℕ) × (after : Plan × ℕ) × (dated_plan_at old n ≡ Some before) × (dated_plan_at new n ≡ Some after)
+    × IsMadeAnew old.world before after)
 
 -- and it isn't outgrown now
 abbrev pub IsFittingAt : List ℕ → Standing → Type 0
@@ -180,7 +182,8 @@ lists_of s = map (λ h. (h.name, h.list, h.steps, h.planned_at)) s.stored
 -- a new stored query has a list of no table if it is a kept query, and the steps that the planner makes in the world
 -- before, with the serial of its newest table; all others are unchanged. After a refusal all is unchanged
 abbrev pub ListsOneMore : {T E : Type 0} → Result T E → List ℕ → Standing → Standing → Type 0
-ListsOneMore (Ok _) n old new = (h : Held) × (new.stored ≡ old.stored ++ h ∷ []) × (h.name ≡ n) × IfSome h.list IsBlank × IsPlannedIn old.world h.query (plan_of h) × (h.planned_at ≡ ((old.world).tables).last)
+ListsOneMore (Ok _) n old new = (h : Held) × (new.stored ≡ old.stored ++ h ∷ []) × (h.name ≡ n) × IfSome h.list IsBlank
+    × IsPlannedIn old.world h.query (plan_of h) × (h.planned_at ≡ ((old.world).tables).last)
 ListsOneMore (Err _) n old new = new ≡ old
 
 -- a dropped stored query takes its list with it; the lists and steps of the others stay. After a refusal all is

@@ -46,5 +46,6 @@ pub record IsOpened {A : Type 0} (s : StoredQueries A) (name : String A) (q : St
 -- the place of each stored query that the changes may concern is among these places
 abbrev pub AreLedTo : {A : Type 0} → Changed → List (String A × StoredQuery A) → List ℕ → Type 0
 AreLedTo {A} changed es places = (i : ℕ) (d : String A × StoredQuery A) → i < length es
-    → may_concern ((slice_index_or es i d).1).kind (((slice_index_or es i d).1).plan).query (has_births_or_deaths changed) changed.came changed.went changed.written ≡ true
+    → may_concern ((slice_index_or es i d).1).kind (((slice_index_or es i d).1).plan).query (has_births_or_deaths changed)
+    changed.came changed.went changed.written ≡ true
     → Contains places i

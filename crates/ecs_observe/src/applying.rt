@@ -204,7 +204,7 @@ impl<A: Allocator + Copy> Session<A> {
         if self.has_events() {
             return Err(SessionRefusal::EventsPending);
         }
-        match find_both(&self.world, entity, id) {
+        match find_both(self.world(), entity, id) {
             Ok(both) => Ok(both),
             Err(refusal) => Err(SessionRefusal::OfWorld(refusal)),
         }
@@ -217,7 +217,7 @@ impl<A: Allocator + Copy> Session<A> {
         if self.has_events() {
             return Err(SessionRefusal::EventsPending);
         }
-        match find_entity(&self.world, entity) {
+        match find_entity(self.world(), entity) {
             Ok(found) => Ok(found),
             Err(refusal) => Err(SessionRefusal::OfWorld(refusal)),
         }

@@ -26,11 +26,16 @@ use watch_touched::has_births_or_deaths;
 
 /// Stored queries in the order in which they were stored, with the changes that each listens for, and how many of them
 /// are notified of commands.
-#[derive(Drop)]
 pub(crate) struct StoredQueries<A: Allocator> {
     pub(crate) all: WatchOrder<StoredQuery<A>, A>,
     /// How many are notified of commands.
     watches: usize,
+}
+
+impl<A: Allocator> Drop for StoredQueries<A> {
+    fn drop(self) {
+        let Self { all: _, watches: _ } = self;
+    }
 }
 
 impl<A: Allocator + Copy> StoredQueries<A> {

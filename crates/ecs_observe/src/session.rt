@@ -87,6 +87,11 @@ impl<A: Allocator + Copy> Session<A> {
             alloc,
         })
     }
+
+    /// Where its memory comes from.
+    pub(crate) fn alloc(&self) -> A {
+        self.alloc
+    }
 }
 
 impl<A: Allocator> Session<A> {

@@ -49,10 +49,12 @@ impl<A: Allocator + Copy> Session<A> {
         if let Some(reason) = self.store_refusal(name) {
             return Err(SessionError::Refused(reason));
         }
-        let query = read_watched(self.alloc, &self.world, kind, text)?;
-        let mut compared = self.compared;
-        let stored = stored_query(self.alloc, &self.world, kind, query, &mut compared)?;
-        let name = String::from_str(self.alloc, name)?;
+        let alloc = self.alloc();
+        let world = self.world();
+        let mut compared = self.compared();
+        let query = read_watched(alloc, world, kind, text)?;
+        let stored = stored_query(alloc, world, kind, query, &mut compared)?;
+        let name = String::from_str(alloc, name)?;
         self.hold(name, stored, compared)?;
         Ok(None)
     }

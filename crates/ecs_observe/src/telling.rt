@@ -182,9 +182,12 @@ fn touched_if_asked<'w, A: Allocator + Copy>(
 fn is_told_locally_at<A: Allocator>(stored: &StoredQueries<A>, places: &[u64]) -> bool
     ensures { result ≡ any_locally_at (entries_of stored.now) places.now }
 {
-    places
-        .iter()
-        .any(|place| stored.is_told_locally_at(*place as usize))
+    for place in places {
+        if stored.is_told_locally_at(*place as usize) {
+            return true;
+        }
+    }
+    false
 }
 
 /// Appends what all stored queries report of a command to the report. Only those at these places report anything.

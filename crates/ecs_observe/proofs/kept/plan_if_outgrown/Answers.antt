@@ -70,3 +70,66 @@ returns-then-not-is_outgrown-clause-fitting g c = subst (IsFitting c.args.planne
 
 pub returns-clause-fitting : goal.returns-clause-fitting
 returns-clause-fitting g c = omega (arith, c.newest_table-newest.ensures)
+
+pub returns-then-not-is_outgrown-clause-query : goal.returns-then-not-is_outgrown-clause-query
+returns-then-not-is_outgrown-clause-query g c = grind arith
+
+pub returns-then-not-is_outgrown-clause-list : goal.returns-then-not-is_outgrown-clause-list
+returns-then-not-is_outgrown-clause-list g c = grind arith
+
+pub returns-in_err-sync-clause-query : goal.returns-in_err-sync-clause-query
+returns-in_err-sync-clause-query g c = grind arith
+
+pub returns-in_err-sync-clause-list : goal.returns-in_err-sync-clause-list
+returns-in_err-sync-clause-list g c = grind arith
+
+pub returns-in_err-sync-clause-refused : goal.returns-in_err-sync-clause-refused
+returns-in_err-sync-clause-refused g c = grind arith
+
+pub returns-in_err-sync-clause-fitting : goal.returns-in_err-sync-clause-fitting
+returns-in_err-sync-clause-fitting g c = grind arith
+
+pub returns-in_err-sync-clause-synced : goal.returns-in_err-sync-clause-synced
+returns-in_err-sync-clause-synced g c = grind arith
+
+pub returns-in_err-put_tables-clause-query : goal.returns-in_err-put_tables-clause-query
+returns-in_err-put_tables-clause-query g c = grind arith
+
+pub returns-in_err-put_tables-clause-list : goal.returns-in_err-put_tables-clause-list
+returns-in_err-put_tables-clause-list g c = grind arith
+
+pub returns-in_err-put_tables-clause-refused : goal.returns-in_err-put_tables-clause-refused
+returns-in_err-put_tables-clause-refused g c = grind arith
+
+pub returns-in_err-put_tables-clause-fitting : goal.returns-in_err-put_tables-clause-fitting
+returns-in_err-put_tables-clause-fitting g c = grind arith
+
+pub returns-in_err-put_tables-clause-synced : goal.returns-in_err-put_tables-clause-synced
+returns-in_err-put_tables-clause-synced g c = grind arith
+
+pub plan_for_kept-requires : goal.plan_for_kept-requires
+plan_for_kept-requires g c = grind arith
+
+pub returns-in_err-planned-clause-query : goal.returns-in_err-planned-clause-query
+returns-in_err-planned-clause-query g c = grind arith
+
+pub returns-in_err-planned-clause-list : goal.returns-in_err-planned-clause-list
+returns-in_err-planned-clause-list g c = grind arith
+
+pub returns-in_err-planned-clause-refused : goal.returns-in_err-planned-clause-refused
+returns-in_err-planned-clause-refused g c = grind arith
+
+pub returns-in_err-planned-clause-fitting : goal.returns-in_err-planned-clause-fitting
+returns-in_err-planned-clause-fitting g c = grind arith
+
+pub returns-in_err-planned-clause-synced : goal.returns-in_err-planned-clause-synced
+returns-in_err-planned-clause-synced g c = grind arith
+
+pub replace-requires : goal.replace-requires
+replace-requires g c = grind arith
+
+pub returns-clause-query : goal.returns-clause-query
+returns-clause-query g c = grind arith
+
+pub returns-clause-list : goal.returns-clause-list
+returns-clause-list g c = grind arith

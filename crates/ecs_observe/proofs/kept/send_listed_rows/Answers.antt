@@ -1,7 +1,6 @@
 -- The query of the plan stays, whether it is planned again or not.
-use Rattle.std.proofs.Common.{List, ap, length, refl, sym, subst, ◌∙◌, true≢false}
+use Rattle.std.proofs.Common.{ap, length, refl, sym, subst, ◌∙◌, true≢false}
 use Rattle.std.specs.Prelude.{max}
-use Rattle.ecs_id.specs.declared.TableKey.{TableKey}
 use Rattle.ecs_model.specs.rows.Text.{rows_text}
 use Rattle.ecs_model.specs.rows.View.{view_of}
 use Rattle.query_model.specs.Query.{Query}
@@ -21,8 +20,8 @@ use Rattle.ecs_observe.proofs.kept.send_listed_rows.Goals as goal
 pub plan_if_outgrown-requires-clause-sound : goal.plan_if_outgrown-requires-clause-sound
 plan_if_outgrown-requires-clause-sound g c = asked_is_sound (c.args.plan.now).query c.requires.current.asked
 
-pub send_planned_rows-requires : goal.send_planned_rows-requires
-send_planned_rows-requires g c = record {
+pub send_unlisted_rows-requires : goal.send_unlisted_rows-requires
+send_unlisted_rows-requires g c = record {
   answerable = subst (λ (q : Query). IsAnswerable (view_of c.args.world.now.state) q) (sym (ap (λ (p : Plan). p.query) c.plan.ensures ∙ c.plan_if_outgrown.ensures.query))
       (current_answerable c.args.world.now.state (c.args.plan.now).query c.keeps.ensures c.requires.current);
 }
@@ -30,17 +29,16 @@ send_planned_rows-requires g c = record {
 pub sync-requires : goal.sync-requires
 sync-requires g c = c.plan_if_outgrown.ensures.list.fits
 
-pub send_rows_from-requires-clause-answerable : goal.send_rows_from-requires-clause-answerable
-send_rows_from-requires-clause-answerable g c =
+pub send_rows_by_list-requires-clause-answerable : goal.send_rows_by_list-requires-clause-answerable
+send_rows_by_list-requires-clause-answerable g c =
     subst (λ (q : Query). IsAnswerable (view_of c.args.world.now.state) q) (sym (ap (λ (p : Plan). p.query) c.plan-2.ensures ∙ c.plan_if_outgrown.ensures.query))
     (current_answerable c.args.world.now.state (c.args.plan.now).query c.keeps.ensures c.requires.current)
 
-pub send_rows_from-requires-clause-tables : goal.send_rows_from-requires-clause-tables
-send_rows_from-requires-clause-tables g c =
+pub send_rows_by_list-requires-clause-tables : goal.send_rows_by_list-requires-clause-tables
+send_rows_by_list-requires-clause-tables g c =
     let q = (c.args.plan.now).query in
-    subst (λ (x : Query). AreTablesOf x (c.args.world.now).tables c.as_slice.result.now) (sym (ap (λ (p : Plan). p.query) c.plan-2.ensures ∙ c.plan_if_outgrown.ensures.query))
-    (subst (AreTablesOf q (c.args.world.now).tables) (sym (c.as_slice.ensures.value ∙ c.in_ok-put_tables.ensures))
-    (record { listed = c.in_ok-sync.ensures.listed q c.plan_if_outgrown.ensures.list.patterns; rising = c.sync.ensures.once }))
+    subst (λ (x : Query). AreTablesOf x (c.args.world.now).tables c.sync.new.list.keys) (sym (ap (λ (p : Plan). p.query) c.plan-2.ensures ∙ c.plan_if_outgrown.ensures.query))
+    (record { listed = c.in_ok-sync.ensures.listed q c.plan_if_outgrown.ensures.list.patterns; rising = c.sync.ensures.once })
 
 pub returns-in_err-sync-clause-follows : goal.returns-in_err-sync-clause-follows
 returns-in_err-sync-clause-follows g c =
@@ -67,78 +65,61 @@ returns-clause-reads g c =
 pub returns-in_err-plan_if_outgrown-clause-front : goal.returns-in_err-plan_if_outgrown-clause-front
 returns-in_err-plan_if_outgrown-clause-front g c = on_err_anyway _ (stops_here _ _ _ _ (stops_before _ _))
 
-pub returns-in_err-room-clause-front : goal.returns-in_err-room-clause-front
-returns-in_err-room-clause-front g c = on_err_anyway _ (stops_here _ _ _ _ (stops_before _ _))
-
 pub returns-in_err-sync-clause-front : goal.returns-in_err-sync-clause-front
 returns-in_err-sync-clause-front g c = on_err_anyway _ (stops_here _ _ _ _ (stops_before _ _))
 
 pub returns-in_err-plan_if_outgrown-clause-held : goal.returns-in_err-plan_if_outgrown-clause-held
 returns-in_err-plan_if_outgrown-clause-held g c = fault_memory _ _ _ _ c.from_residual.ensures.1
 
-pub returns-in_err-room-clause-held : goal.returns-in_err-room-clause-held
-returns-in_err-room-clause-held g c = fault_memory _ _ _ _ c.from_residual-in_err-room.ensures.1
-
 pub returns-in_err-sync-clause-held : goal.returns-in_err-sync-clause-held
 returns-in_err-sync-clause-held g c = fault_memory _ _ _ _ c.from_residual-in_err-sync.ensures.1
 
-pub returns-in_err-put_tables-clause-follows : goal.returns-in_err-put_tables-clause-follows
-returns-in_err-put_tables-clause-follows g c =
-    follows_again c.args.world.now.tables c.args.list.now c.plan_if_outgrown.new.list c.sync.new.list c.sync.result
-    (record { fits = c.plan_if_outgrown.ensures.list.fits; patterns = c.sync.ensures.patterns; exact = c.sync.ensures.exact; synced = c.sync.ensures.synced; refused = c.sync.ensures.refused; judges = c.sync.ensures.judged; again = c.sync.ensures.again }) c.plan_if_outgrown.ensures.follows c.in_ok-plan_if_outgrown.ensures.synced
-
-pub returns-in_err-put_tables-clause-front : goal.returns-in_err-put_tables-clause-front
-returns-in_err-put_tables-clause-front g c = on_err_anyway _ (stops_here _ _ _ _ (stops_before _ _))
-
-pub returns-in_err-put_tables-clause-held : goal.returns-in_err-put_tables-clause-held
-returns-in_err-put_tables-clause-held g c = fault_memory _ _ _ _ c.from_residual-in_err-put_tables.ensures.1
-
 -- one more exit after each of the two calls that send rows
-pub returns-in_err-send_planned_rows-clause-follows : goal.returns-in_err-send_planned_rows-clause-follows
-returns-in_err-send_planned_rows-clause-follows g c = c.plan_if_outgrown.ensures.follows
+pub returns-in_err-send_unlisted_rows-clause-follows : goal.returns-in_err-send_unlisted_rows-clause-follows
+returns-in_err-send_unlisted_rows-clause-follows g c = c.plan_if_outgrown.ensures.follows
 
-pub returns-in_err-send_rows_from-clause-follows : goal.returns-in_err-send_rows_from-clause-follows
-returns-in_err-send_rows_from-clause-follows g c =
+pub returns-in_err-send_rows_by_list-clause-follows : goal.returns-in_err-send_rows_by_list-clause-follows
+returns-in_err-send_rows_by_list-clause-follows g c =
     follows_again c.args.world.now.tables c.args.list.now c.plan_if_outgrown.new.list c.sync.new.list c.sync.result
     (record { fits = c.plan_if_outgrown.ensures.list.fits; patterns = c.sync.ensures.patterns; exact = c.sync.ensures.exact; synced = c.sync.ensures.synced; refused = c.sync.ensures.refused; judges = c.sync.ensures.judged; again = c.sync.ensures.again }) c.plan_if_outgrown.ensures.follows c.in_ok-plan_if_outgrown.ensures.synced
 
-pub returns-in_err-send_planned_rows-clause-front : goal.returns-in_err-send_planned_rows-clause-front
-returns-in_err-send_planned_rows-clause-front g c =
+pub returns-in_err-send_unlisted_rows-clause-front : goal.returns-in_err-send_unlisted_rows-clause-front
+returns-in_err-send_unlisted_rows-clause-front g c =
     let same = ap (λ (p : Plan). p.query) c.plan.ensures ∙ c.plan_if_outgrown.ensures.query in
-    on_err_anyway _ (stops_by _ _ _ _ _ (passed_on _ _ c.from_residual-in_err-send_planned_rows.ensures.1) (subst (StopsSending _ _ _ _ _) (ap (rows_text c.args.world.now.state) same) c.in_err-send_planned_rows.ensures.front))
+    on_err_anyway _ (stops_by _ _ _ _ _ (passed_on _ _ c.from_residual-in_err-send_unlisted_rows.ensures.1) (subst (StopsSending _ _ _ _ _) (ap (rows_text c.args.world.now.state) same) c.in_err-send_unlisted_rows.ensures.front))
 
-pub returns-in_err-send_planned_rows-clause-held : goal.returns-in_err-send_planned_rows-clause-held
-returns-in_err-send_planned_rows-clause-held g c =
+pub returns-in_err-send_unlisted_rows-clause-held : goal.returns-in_err-send_unlisted_rows-clause-held
+returns-in_err-send_unlisted_rows-clause-held g c =
     let same = ap (λ (p : Plan). p.query) c.plan.ensures ∙ c.plan_if_outgrown.ensures.query in
     let most = max c.args.most (length c.args.out.now.items) in
-    fault_same c.in_err-send_planned_rows.field-0.0 _ _ c.send_planned_rows.result _ _ c.in_err-send_planned_rows.was c.from_residual-in_err-send_planned_rows.ensures.1
-    (subst (λ (q : Query). HoldsAtFault most (lines_of_rows c.args.world.now.state q) c.send_planned_rows.result c.send_planned_rows.new.out.items) same c.send_planned_rows.ensures.held)
+    fault_same c.in_err-send_unlisted_rows.field-0.0 _ _ c.send_unlisted_rows.result _ _ c.in_err-send_unlisted_rows.was c.from_residual-in_err-send_unlisted_rows.ensures.1
+    (subst (λ (q : Query). HoldsAtFault most (lines_of_rows c.args.world.now.state q) c.send_unlisted_rows.result c.send_unlisted_rows.new.out.items) same c.send_unlisted_rows.ensures.held)
 
-pub returns-in_err-send_planned_rows-clause-writes : goal.returns-in_err-send_planned_rows-clause-writes
-returns-in_err-send_planned_rows-clause-writes g c =
-    fails_same c.in_err-send_planned_rows.field-0.0 _ _ _ c.send_planned_rows.result _ (λ calm. calm) c.in_err-send_planned_rows.was c.from_residual-in_err-send_planned_rows.ensures.1 c.send_planned_rows.ensures.writes
+pub returns-in_err-send_unlisted_rows-clause-writes : goal.returns-in_err-send_unlisted_rows-clause-writes
+returns-in_err-send_unlisted_rows-clause-writes g c =
+    fails_same c.in_err-send_unlisted_rows.field-0.0 _ _ _ c.send_unlisted_rows.result _ (λ calm. calm) c.in_err-send_unlisted_rows.was c.from_residual-in_err-send_unlisted_rows.ensures.1 c.send_unlisted_rows.ensures.writes
 
-pub returns-in_err-send_rows_from-clause-front : goal.returns-in_err-send_rows_from-clause-front
-returns-in_err-send_rows_from-clause-front g c =
+pub returns-in_err-send_rows_by_list-clause-front : goal.returns-in_err-send_rows_by_list-clause-front
+returns-in_err-send_rows_by_list-clause-front g c =
     let same = ap (λ (p : Plan). p.query) c.plan-2.ensures ∙ c.plan_if_outgrown.ensures.query in
-    on_err_anyway _ (stops_by _ _ _ _ _ (passed_on _ _ c.from_residual-in_err-send_rows_from.ensures.1) (subst (StopsSending _ _ _ _ _) (ap (rows_text c.args.world.now.state) same) c.in_err-send_rows_from.ensures.front))
+    on_err_anyway _ (stops_by _ _ _ _ _ (passed_on _ _ c.from_residual-in_err-send_rows_by_list.ensures.1) (subst (StopsSending _ _ _ _ _) (ap (rows_text c.args.world.now.state) same) c.in_err-send_rows_by_list.ensures.front))
 
-pub returns-in_err-send_rows_from-clause-held : goal.returns-in_err-send_rows_from-clause-held
-returns-in_err-send_rows_from-clause-held g c =
+pub returns-in_err-send_rows_by_list-clause-held : goal.returns-in_err-send_rows_by_list-clause-held
+returns-in_err-send_rows_by_list-clause-held g c =
     let same = ap (λ (p : Plan). p.query) c.plan-2.ensures ∙ c.plan_if_outgrown.ensures.query in
     let most = max c.args.most (length c.args.out.now.items) in
-    fault_same c.in_err-send_rows_from.field-0.0 _ _ c.send_rows_from.result _ _ c.in_err-send_rows_from.was c.from_residual-in_err-send_rows_from.ensures.1
-    (subst (λ (q : Query). HoldsAtFault most (lines_of_rows c.args.world.now.state q) c.send_rows_from.result c.send_rows_from.new.out.items) same c.send_rows_from.ensures.held)
+    fault_same c.in_err-send_rows_by_list.field-0.0 _ _ c.send_rows_by_list.result _ _ c.in_err-send_rows_by_list.was c.from_residual-in_err-send_rows_by_list.ensures.1
+    (subst (λ (q : Query). HoldsAtFault most (lines_of_rows c.args.world.now.state q) c.send_rows_by_list.result c.send_rows_by_list.new.out.items) same c.send_rows_by_list.ensures.held)
 
-pub returns-in_err-send_rows_from-clause-writes : goal.returns-in_err-send_rows_from-clause-writes
-returns-in_err-send_rows_from-clause-writes g c =
-    fails_same c.in_err-send_rows_from.field-0.0 _ _ _ c.send_rows_from.result _ (λ calm. calm) c.in_err-send_rows_from.was c.from_residual-in_err-send_rows_from.ensures.1 c.send_rows_from.ensures.writes
+pub returns-in_err-send_rows_by_list-clause-writes : goal.returns-in_err-send_rows_by_list-clause-writes
+returns-in_err-send_rows_by_list-clause-writes g c =
+    fails_same c.in_err-send_rows_by_list.field-0.0 _ _ _ c.send_rows_by_list.result _ (λ calm. calm) c.in_err-send_rows_by_list.was c.from_residual-in_err-send_rows_by_list.ensures.1 c.send_rows_by_list.ensures.writes
 
 pub returns-then-not-begins_in_tables-clause-writes : goal.returns-then-not-begins_in_tables-clause-writes
-returns-then-not-begins_in_tables-clause-writes g c = calm_ok _ _ _ (calm_still _ _ _ c.in_ok-send_planned_rows.ensures.writes)
+returns-then-not-begins_in_tables-clause-writes g c = calm_ok _ _ _ (calm_still _ _ _ c.in_ok-send_unlisted_rows.ensures.writes)
 
 pub returns-clause-writes : goal.returns-clause-writes
-returns-clause-writes g c = calm_ok _ _ _ (calm_still _ _ _ c.in_ok-send_rows_from.ensures.writes)
+returns-clause-writes g c = calm_ok _ _ _ (calm_still _ _ _ c.in_ok-send_rows_by_list.ensures.writes)
 
 -- how the rows were found
 pub returns-then-not-begins_in_tables-clause-found : goal.returns-then-not-begins_in_tables-clause-found
@@ -150,7 +131,6 @@ returns-clause-found g c = (
   (
     c.sync.new.list,
     refl,
-    subst (λ (keys : List TableKey). StaysInTables c.args.world.now c.plan_if_outgrown.new.plan keys c.in_ok-send_rows_from.field-0) (c.as_slice.ensures.value ∙ c.in_ok-put_tables.ensures)
-        (subst (λ (p : Plan). StaysInTables c.args.world.now p c.as_slice.result.now c.in_ok-send_rows_from.field-0) c.plan-2.ensures c.in_ok-send_rows_from.ensures.probes),
+    subst (λ (p : Plan). StaysInTables c.args.world.now p c.sync.new.list.keys c.in_ok-send_rows_by_list.field-0) c.plan-2.ensures c.in_ok-send_rows_by_list.ensures.probes,
   ),
 )

@@ -1,5 +1,5 @@
 -- A query without answers prints its count alone.
-use Rattle.std.proofs.Common.{[], ◌≤◌, append-nil, arith, length, refl, rules, subst, sym, ◌∙◌}
+use Rattle.std.proofs.Common.{[], ◌≤◌, append-nil, arith, length, refl, subst, sym, ◌∙◌}
 use Rattle.std.specs.Prelude.{codes, max}
 use Rattle.ecs_model.specs.rows.Text.{rows_text}
 use Rattle.ecs_model.specs.rows.View.{view_of}
@@ -60,6 +60,71 @@ returns-in_err-send_list-clause-writes g c =
 pub returns-then-has_nobody-clause-writes : goal.returns-then-has_nobody-clause-writes
 returns-then-has_nobody-clause-writes g c = calm_ok _ _ _ (calm_still _ _ _ c.in_ok-send_list.ensures.writes)
 
--- no probe was made where no entity stands there
 pub returns-then-has_nobody-clause-probes : goal.returns-then-has_nobody-clause-probes
-returns-then-has_nobody-clause-probes g c = record { shown = c.new-facts.result; world = c.new-facts.ensures; links = search rules; lists = c.keeps_lists.ensures; within = omega arith }
+returns-then-has_nobody-clause-probes g c = c.has_nobody.ensures.probes c.if-has_nobody.true
+
+pub has_nobody-requires-clause-answerable : goal.has_nobody-requires-clause-answerable
+has_nobody-requires-clause-answerable g c = grind arith
+
+pub has_nobody-requires-clause-tables : goal.has_nobody-requires-clause-tables
+has_nobody-requires-clause-tables g c = grind arith
+
+pub returns-in_err-send_list-clause-rows : goal.returns-in_err-send_list-clause-rows
+returns-in_err-send_list-clause-rows g c = grind arith
+
+pub returns-in_err-send_list-clause-unsent : goal.returns-in_err-send_list-clause-unsent
+returns-in_err-send_list-clause-unsent g c = grind arith
+
+pub returns-in_err-send_list-clause-kept : goal.returns-in_err-send_list-clause-kept
+returns-in_err-send_list-clause-kept g c = grind arith
+
+pub returns-in_err-send_list-clause-probes : goal.returns-in_err-send_list-clause-probes
+returns-in_err-send_list-clause-probes g c = grind arith
+
+pub returns-then-has_nobody-clause-unsent : goal.returns-then-has_nobody-clause-unsent
+returns-then-has_nobody-clause-unsent g c = grind arith
+
+pub returns-then-has_nobody-clause-kept : goal.returns-then-has_nobody-clause-kept
+returns-then-has_nobody-clause-kept g c = grind arith
+
+pub returns-in_err-room-clause-rows : goal.returns-in_err-room-clause-rows
+returns-in_err-room-clause-rows g c = grind arith
+
+pub returns-in_err-room-clause-unsent : goal.returns-in_err-room-clause-unsent
+returns-in_err-room-clause-unsent g c = grind arith
+
+pub returns-in_err-room-clause-writes : goal.returns-in_err-room-clause-writes
+returns-in_err-room-clause-writes g c = grind arith
+
+pub returns-in_err-room-clause-kept : goal.returns-in_err-room-clause-kept
+returns-in_err-room-clause-kept g c = grind arith
+
+pub returns-in_err-room-clause-probes : goal.returns-in_err-room-clause-probes
+returns-in_err-room-clause-probes g c = grind arith
+
+pub send_rows_in-requires-clause-answerable : goal.send_rows_in-requires-clause-answerable
+send_rows_in-requires-clause-answerable g c = grind arith
+
+pub send_rows_in-requires-clause-tables : goal.send_rows_in-requires-clause-tables
+send_rows_in-requires-clause-tables g c = grind arith
+
+pub returns-clause-rows : goal.returns-clause-rows
+returns-clause-rows g c = grind arith
+
+pub returns-clause-unsent : goal.returns-clause-unsent
+returns-clause-unsent g c = grind arith
+
+pub returns-clause-front : goal.returns-clause-front
+returns-clause-front g c = grind arith
+
+pub returns-clause-held : goal.returns-clause-held
+returns-clause-held g c = grind arith
+
+pub returns-clause-writes : goal.returns-clause-writes
+returns-clause-writes g c = grind arith
+
+pub returns-clause-kept : goal.returns-clause-kept
+returns-clause-kept g c = grind arith
+
+pub returns-clause-probes : goal.returns-clause-probes
+returns-clause-probes g c = grind arith

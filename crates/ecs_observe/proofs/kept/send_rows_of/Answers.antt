@@ -1,3 +1,4 @@
+use Rattle.std.proofs.Common.{arith}
 use Rattle.std.specs.Prelude.{is_some}
 use Rattle.std.proofs.Common.{ap, inl, inr, refl, subst, sym, ◌∙◌}
 use Rattle.query_model.specs.Query.{Query}
@@ -60,3 +61,48 @@ returns-clause-writes g c = sent_calm _ _ _ _ c.in_ok-send_listed_rows.ensures.w
 
 pub returns-clause-found : goal.returns-clause-found
 returns-clause-found g c = c.in_ok-send_listed_rows.ensures.found
+
+pub returns-in_default-clause-kept : goal.returns-in_default-clause-kept
+returns-in_default-clause-kept g c = grind arith
+
+pub returns-in_default-clause-kind : goal.returns-in_default-clause-kind
+returns-in_default-clause-kind g c = grind arith
+
+pub returns-in_default-clause-query : goal.returns-in_default-clause-query
+returns-in_default-clause-query g c = grind arith
+
+pub returns-in_default-clause-these : goal.returns-in_default-clause-these
+returns-in_default-clause-these g c = grind arith
+
+pub returns-in_default-clause-list : goal.returns-in_default-clause-list
+returns-in_default-clause-list g c = grind arith
+
+pub send_listed_rows-requires-clause-current : goal.send_listed_rows-requires-clause-current
+send_listed_rows-requires-clause-current g c = grind arith
+
+pub returns-in_err-send_listed_rows-clause-kept : goal.returns-in_err-send_listed_rows-clause-kept
+returns-in_err-send_listed_rows-clause-kept g c = grind arith
+
+pub returns-in_err-send_listed_rows-clause-kind : goal.returns-in_err-send_listed_rows-clause-kind
+returns-in_err-send_listed_rows-clause-kind g c = grind arith
+
+pub returns-clause-unsent : goal.returns-clause-unsent
+returns-clause-unsent g c = grind arith
+
+pub returns-clause-kept : goal.returns-clause-kept
+returns-clause-kept g c = grind arith
+
+pub returns-clause-kind : goal.returns-clause-kind
+returns-clause-kind g c = grind arith
+
+pub returns-clause-query : goal.returns-clause-query
+returns-clause-query g c = grind arith
+
+pub returns-clause-these : goal.returns-clause-these
+returns-clause-these g c = grind arith
+
+pub returns-clause-planned : goal.returns-clause-planned
+returns-clause-planned g c = grind arith
+
+pub returns-clause-fitting : goal.returns-clause-fitting
+returns-clause-fitting g c = grind arith

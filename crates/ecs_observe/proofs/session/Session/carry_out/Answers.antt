@@ -1,3 +1,4 @@
+use Rattle.std.proofs.Common.{arith}
 use Rattle.std.proofs.Common.{ap, refl, subst, sym, ◌∙◌}
 use Rattle.ecs_model.specs.Orders.{MakeComponent, MakeEntity, MakeFresh, command_of}
 use Rattle.ecs_model.specs.stored.Session.{Answer, apply}
@@ -49,3 +50,174 @@ returns-in-Store-clause-stay g c = subst (TablesStay _ c.args.self.now.world.tab
 
 pub returns-in-Drop-clause-stay : goal.returns-in-Drop-clause-stay
 returns-in-Drop-clause-stay g c = subst (TablesStay _ c.args.self.now.world.tables) (sym c.drop_stored.ensures.tables) (stay_same _ c.args.self.now.world.tables)
+
+pub entity-requires-text-name : goal.entity-requires-text-name
+entity-requires-text-name g c κs within = grind arith
+
+pub component-requires-text-name : goal.component-requires-text-name
+component-requires-text-name g c κs within = grind arith
+
+pub store-requires-text-name : goal.store-requires-text-name
+store-requires-text-name g c κs within = grind arith
+
+pub store-requires-text-text : goal.store-requires-text-text
+store-requires-text-text g c κs within = grind arith
+
+pub drop_stored-requires-text-name : goal.drop_stored-requires-text-name
+drop_stored-requires-text-name g c κs within = grind arith
+
+pub returns-in-New-clause-lists : goal.returns-in-New-clause-lists
+returns-in-New-clause-lists g c = grind arith
+
+pub returns-in-New-clause-goes_on : goal.returns-in-New-clause-goes_on
+returns-in-New-clause-goes_on g c = grind arith
+
+pub returns-in-New-clause-compared : goal.returns-in-New-clause-compared
+returns-in-New-clause-compared g c = grind arith
+
+pub returns-in-New-clause-counted : goal.returns-in-New-clause-counted
+returns-in-New-clause-counted g c = grind arith
+
+pub returns-in-New-clause-grows : goal.returns-in-New-clause-grows
+returns-in-New-clause-grows g c = grind arith
+
+pub returns-in-Entity-clause-lists : goal.returns-in-Entity-clause-lists
+returns-in-Entity-clause-lists g c = grind arith
+
+pub returns-in-Entity-clause-goes_on : goal.returns-in-Entity-clause-goes_on
+returns-in-Entity-clause-goes_on g c = grind arith
+
+pub returns-in-Entity-clause-compared : goal.returns-in-Entity-clause-compared
+returns-in-Entity-clause-compared g c = grind arith
+
+pub returns-in-Entity-clause-counted : goal.returns-in-Entity-clause-counted
+returns-in-Entity-clause-counted g c = grind arith
+
+pub returns-in-Entity-clause-grows : goal.returns-in-Entity-clause-grows
+returns-in-Entity-clause-grows g c = grind arith
+
+pub returns-in-Component-clause-lists : goal.returns-in-Component-clause-lists
+returns-in-Component-clause-lists g c = grind arith
+
+pub returns-in-Component-clause-goes_on : goal.returns-in-Component-clause-goes_on
+returns-in-Component-clause-goes_on g c = grind arith
+
+pub returns-in-Component-clause-compared : goal.returns-in-Component-clause-compared
+returns-in-Component-clause-compared g c = grind arith
+
+pub returns-in-Component-clause-counted : goal.returns-in-Component-clause-counted
+returns-in-Component-clause-counted g c = grind arith
+
+pub returns-in-Component-clause-grows : goal.returns-in-Component-clause-grows
+returns-in-Component-clause-grows g c = grind arith
+
+pub returns-in-Add-clause-answers : goal.returns-in-Add-clause-answers
+returns-in-Add-clause-answers g c = grind arith
+
+pub returns-in-Add-clause-lists : goal.returns-in-Add-clause-lists
+returns-in-Add-clause-lists g c = grind arith
+
+pub returns-in-Add-clause-goes_on : goal.returns-in-Add-clause-goes_on
+returns-in-Add-clause-goes_on g c = grind arith
+
+pub returns-in-Add-clause-stay : goal.returns-in-Add-clause-stay
+returns-in-Add-clause-stay g c = grind arith
+
+pub returns-in-Add-clause-compared : goal.returns-in-Add-clause-compared
+returns-in-Add-clause-compared g c = grind arith
+
+pub returns-in-Add-clause-counted : goal.returns-in-Add-clause-counted
+returns-in-Add-clause-counted g c = grind arith
+
+pub returns-in-Add-clause-grows : goal.returns-in-Add-clause-grows
+returns-in-Add-clause-grows g c = grind arith
+
+pub returns-in-Set-clause-answers : goal.returns-in-Set-clause-answers
+returns-in-Set-clause-answers g c = grind arith
+
+pub returns-in-Set-clause-lists : goal.returns-in-Set-clause-lists
+returns-in-Set-clause-lists g c = grind arith
+
+pub returns-in-Set-clause-goes_on : goal.returns-in-Set-clause-goes_on
+returns-in-Set-clause-goes_on g c = grind arith
+
+pub returns-in-Set-clause-stay : goal.returns-in-Set-clause-stay
+returns-in-Set-clause-stay g c = grind arith
+
+pub returns-in-Set-clause-compared : goal.returns-in-Set-clause-compared
+returns-in-Set-clause-compared g c = grind arith
+
+pub returns-in-Set-clause-counted : goal.returns-in-Set-clause-counted
+returns-in-Set-clause-counted g c = grind arith
+
+pub returns-in-Set-clause-grows : goal.returns-in-Set-clause-grows
+returns-in-Set-clause-grows g c = grind arith
+
+pub returns-in-Remove-clause-answers : goal.returns-in-Remove-clause-answers
+returns-in-Remove-clause-answers g c = grind arith
+
+pub returns-in-Remove-clause-lists : goal.returns-in-Remove-clause-lists
+returns-in-Remove-clause-lists g c = grind arith
+
+pub returns-in-Remove-clause-goes_on : goal.returns-in-Remove-clause-goes_on
+returns-in-Remove-clause-goes_on g c = grind arith
+
+pub returns-in-Remove-clause-compared : goal.returns-in-Remove-clause-compared
+returns-in-Remove-clause-compared g c = grind arith
+
+pub returns-in-Remove-clause-counted : goal.returns-in-Remove-clause-counted
+returns-in-Remove-clause-counted g c = grind arith
+
+pub returns-in-Remove-clause-grows : goal.returns-in-Remove-clause-grows
+returns-in-Remove-clause-grows g c = grind arith
+
+pub returns-in-Delete-clause-answers : goal.returns-in-Delete-clause-answers
+returns-in-Delete-clause-answers g c = grind arith
+
+pub returns-in-Delete-clause-lists : goal.returns-in-Delete-clause-lists
+returns-in-Delete-clause-lists g c = grind arith
+
+pub returns-in-Delete-clause-goes_on : goal.returns-in-Delete-clause-goes_on
+returns-in-Delete-clause-goes_on g c = grind arith
+
+pub returns-in-Delete-clause-stay : goal.returns-in-Delete-clause-stay
+returns-in-Delete-clause-stay g c = grind arith
+
+pub returns-in-Delete-clause-compared : goal.returns-in-Delete-clause-compared
+returns-in-Delete-clause-compared g c = grind arith
+
+pub returns-in-Delete-clause-counted : goal.returns-in-Delete-clause-counted
+returns-in-Delete-clause-counted g c = grind arith
+
+pub returns-in-Delete-clause-grows : goal.returns-in-Delete-clause-grows
+returns-in-Delete-clause-grows g c = grind arith
+
+pub returns-in-Store-clause-answers : goal.returns-in-Store-clause-answers
+returns-in-Store-clause-answers g c = grind arith
+
+pub returns-in-Store-clause-lists : goal.returns-in-Store-clause-lists
+returns-in-Store-clause-lists g c = grind arith
+
+pub returns-in-Store-clause-compared : goal.returns-in-Store-clause-compared
+returns-in-Store-clause-compared g c = grind arith
+
+pub returns-in-Store-clause-counted : goal.returns-in-Store-clause-counted
+returns-in-Store-clause-counted g c = grind arith
+
+pub returns-in-Store-clause-grows : goal.returns-in-Store-clause-grows
+returns-in-Store-clause-grows g c = grind arith
+
+pub returns-in-Drop-clause-answers : goal.returns-in-Drop-clause-answers
+returns-in-Drop-clause-answers g c = grind arith
+
+pub returns-in-Drop-clause-lists : goal.returns-in-Drop-clause-lists
+returns-in-Drop-clause-lists g c = grind arith
+
+pub returns-in-Drop-clause-compared : goal.returns-in-Drop-clause-compared
+returns-in-Drop-clause-compared g c = grind arith
+
+pub returns-in-Drop-clause-counted : goal.returns-in-Drop-clause-counted
+returns-in-Drop-clause-counted g c = grind arith
+
+pub returns-in-Drop-clause-grows : goal.returns-in-Drop-clause-grows
+returns-in-Drop-clause-grows g c = grind arith

@@ -1,3 +1,4 @@
+use Rattle.std.proofs.Common.{arith}
 use Rattle.std.proofs.Common.{subst}
 use Rattle.ecs_model.specs.steps.Step.{Component}
 use Rattle.ecs_observe.proofs.KeptLists.{lists_later}
@@ -34,3 +35,18 @@ returns-clause-goes_on g c = subst (λ (s : Standing). TablesGoOn (s.world).tabl
 
 pub returns-clause-stay : goal.returns-clause-stay
 returns-clause-stay g c = subst (λ (s : Standing). NoneGo s.world c.component-done.new.self) c.self.view_is c.component-done.ensures.stay
+
+pub returns-then-has_events-clause-compared : goal.returns-then-has_events-clause-compared
+returns-then-has_events-clause-compared g c = grind arith
+
+pub returns-then-has_events-clause-lists : goal.returns-then-has_events-clause-lists
+returns-then-has_events-clause-lists g c = grind arith
+
+pub answer-requires : goal.answer-requires
+answer-requires g c = grind arith
+
+pub returns-clause-compared : goal.returns-clause-compared
+returns-clause-compared g c = grind arith
+
+pub returns-clause-lists : goal.returns-clause-lists
+returns-clause-lists g c = grind arith

@@ -1,4 +1,5 @@
 -- The stored query of the name is taken out and counted once less, or there is none.
+use Rattle.std.proofs.Common.{arith}
 use Rattle.std.proofs.Common.{◌≡◌, false, true, refl, sym, ap, subst, ◌∙◌}
 use Rattle.std.specs.Prelude.{ℕ, List, Option, bytes_eq, filter, is_some, map, not}
 use Rattle.ecs_model.specs.stored.Session.{unpinned_by, without_stored}
@@ -88,3 +89,24 @@ returns-clause-lists g c =
 
 pub returns-clause-tables : goal.returns-clause-tables
 returns-clause-tables g c = c.unpin_all.ensures.tables ∙ ap (λ (s : Standing). (s.world).tables) c.self.view_is
+
+pub returns-then-is_some-clause-compared : goal.returns-then-is_some-clause-compared
+returns-then-is_some-clause-compared g c = grind arith
+
+pub returns-then-is_some-clause-lists : goal.returns-then-is_some-clause-lists
+returns-then-is_some-clause-lists g c = grind arith
+
+pub returns-then-is_some-clause-tables : goal.returns-then-is_some-clause-tables
+returns-then-is_some-clause-tables g c = grind arith
+
+pub remove-requires : goal.remove-requires
+remove-requires g c = grind arith
+
+pub returns-in_default-clause-compared : goal.returns-in_default-clause-compared
+returns-in_default-clause-compared g c = grind arith
+
+pub returns-in_default-clause-tables : goal.returns-in_default-clause-tables
+returns-in_default-clause-tables g c = grind arith
+
+pub returns-clause-compared : goal.returns-clause-compared
+returns-clause-compared g c = grind arith

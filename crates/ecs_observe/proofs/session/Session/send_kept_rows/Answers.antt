@@ -1,4 +1,5 @@
 -- The stored query of the name is asked for its rows, and its list may be another; or there is none of the name.
+use Rattle.std.proofs.Common.{arith}
 use Rattle.std.specs.Prelude.{option_map}
 use Rattle.std.specs.Box.{with_value}
 use Rattle.std.specs.Vec.{with_item}
@@ -83,158 +84,66 @@ invariant_of-self g c =
       still_stored s t i x y low here name (ap (λ (m : Entry g.row.A.Denot). m.number) is) (ap (λ (m : Entry g.row.A.Denot). (m.value).occasions.items) is) kind query refl refl refl refl c.self.invariant.2,
     )
 
-pub returns-clause-rows : goal.returns-clause-rows
-returns-clause-rows g c =
+pub returns : goal.returns
+returns g c =
     let bs = made_of c.self.inside.stored in
     let i = c.in-Some.place in
     let x = c.index_mut-made.result.now in
     let is = c.deref_mut.ensures.value in
     let low = c.in-Some.ensures.0 in
     let here = here_as bs i x low c.index_mut-made.ensures.value in
+    let m = c.deref_mut.result.now in
+    let y : Box g.row.A.Denot = with_value x (record { number = m.number; name = m.name; value = record { occasions = m.value.occasions; value = c.send_rows_of.new.query } }) in
+    let kind = c.send_rows_of.ensures.kind ∙ ap (λ (m : Entry g.row.A.Denot). (m.value.value).kind) is in
+    let query = c.send_rows_of.ensures.query ∙ ap (λ (m : Entry g.row.A.Denot). ((m.value.value).plan).query) is in
+    let these = c.send_rows_of.ensures.these ∙ ap (λ (m : Entry g.row.A.Denot). (m.value.value).these) is in
+    let name = ap (λ (m : Entry g.row.A.Denot). m.name) is in
+    let s = c.self.inside.stored in
+    let t : StoredQueries g.row.A.Denot = record {
+      all = record { order = record { made = with_item s.all.order.made i y; numbers = s.all.order.numbers }; index = s.all.index };
+      watches = s.watches;
+    } in
     let there = look_stored c.args.name.now bs ∙ ap (option_map stored_in) (c.in-Some.ensures.1 x) ∙ ap (λ (b : Box g.row.A.Denot). Some (query_in b)) (here x)
     ∙ sym (ap (λ (m : Entry g.row.A.Denot). Some (m.value.value)) is) in
-    sends_answered c.args.self.now c.self.inside.world (entries_of c.self.inside.stored) c.self.inside.waiting c.self.inside.compared c.args.name.now (sym c.self.view_is)
-    c.deref_mut.result.now.value.value there c.args.most c.send_rows_of.result _ _ c.args.out.now.items c.send_rows_of.new.out.items c.send_rows_of.ensures.rows
-
-pub returns-clause-same : goal.returns-clause-same
-returns-clause-same g c =
-    let bs = made_of c.self.inside.stored in
-    let i = c.in-Some.place in
-    let x = c.index_mut-made.result.now in
-    let is = c.deref_mut.ensures.value in
-    let low = c.in-Some.ensures.0 in
-    let here = here_as bs i x low c.index_mut-made.ensures.value in
-    let m = c.deref_mut.result.now in
-    let y : Box g.row.A.Denot = with_value x (record { number = m.number; name = m.name; value = record { occasions = m.value.occasions; value = c.send_rows_of.new.query } }) in
-    let kind = c.send_rows_of.ensures.kind ∙ ap (λ (m : Entry g.row.A.Denot). (m.value.value).kind) is in
-    let query = c.send_rows_of.ensures.query ∙ ap (λ (m : Entry g.row.A.Denot). ((m.value.value).plan).query) is in
-    let these = c.send_rows_of.ensures.these ∙ ap (λ (m : Entry g.row.A.Denot). (m.value.value).these) is in
-    let name = ap (λ (m : Entry g.row.A.Denot). m.name) is in
-    let s = c.self.inside.stored in
-    let t : StoredQueries g.row.A.Denot = record {
-      all = record { order = record { made = with_item s.all.order.made i y; numbers = s.all.order.numbers }; index = s.all.index };
-      watches = s.watches;
-    } in
-    same_then c.args.name.now c.self.inside.world s t c.self.inside.waiting c.self.inside.compared i x y
-    c.in-Some.ensures here refl name kind query these c.self.invariant.0 c.args.self.now c.self.view_is
-
-pub returns-clause-lists : goal.returns-clause-lists
-returns-clause-lists g c =
-    let bs = made_of c.self.inside.stored in
-    let i = c.in-Some.place in
-    let x = c.index_mut-made.result.now in
-    let is = c.deref_mut.ensures.value in
-    let low = c.in-Some.ensures.0 in
-    let here = here_as bs i x low c.index_mut-made.ensures.value in
-    let m = c.deref_mut.result.now in
-    let y : Box g.row.A.Denot = with_value x (record { number = m.number; name = m.name; value = record { occasions = m.value.occasions; value = c.send_rows_of.new.query } }) in
-    let kind = c.send_rows_of.ensures.kind ∙ ap (λ (m : Entry g.row.A.Denot). (m.value.value).kind) is in
-    let query = c.send_rows_of.ensures.query ∙ ap (λ (m : Entry g.row.A.Denot). ((m.value.value).plan).query) is in
-    let these = c.send_rows_of.ensures.these ∙ ap (λ (m : Entry g.row.A.Denot). (m.value.value).these) is in
-    let name = ap (λ (m : Entry g.row.A.Denot). m.name) is in
-    let s = c.self.inside.stored in
-    let t : StoredQueries g.row.A.Denot = record {
-      all = record { order = record { made = with_item s.all.order.made i y; numbers = s.all.order.numbers }; index = s.all.index };
-      watches = s.watches;
-    } in
-    follows_then c.args.name.now c.self.inside.world s t c.self.inside.waiting c.self.inside.compared i x y
-    c.in-Some.ensures here refl name kind query these c.self.invariant.0 c.args.self.now c.self.view_is
-    (subst (λ (m : Entry g.row.A.Denot). FollowsIfSome c.self.inside.world.tables (m.value.value) c.send_rows_of.new.query) is c.send_rows_of.ensures.follows)
+    record {
+      rows = sends_answered c.args.self.now c.self.inside.world (entries_of c.self.inside.stored) c.self.inside.waiting c.self.inside.compared c.args.name.now (sym c.self.view_is)
+          c.deref_mut.result.now.value.value there c.args.most c.send_rows_of.result _ _ c.args.out.now.items c.send_rows_of.new.out.items c.send_rows_of.ensures.rows;
+      unsent = c.send_rows_of.ensures.unsent;
+      writes = c.send_rows_of.ensures.writes;
+      kept = c.send_rows_of.ensures.kept;
+      same = same_then c.args.name.now c.self.inside.world s t c.self.inside.waiting c.self.inside.compared i x y
+          c.in-Some.ensures here refl name kind query these c.self.invariant.0 c.args.self.now c.self.view_is;
+      lists = follows_then c.args.name.now c.self.inside.world s t c.self.inside.waiting c.self.inside.compared i x y
+          c.in-Some.ensures here refl name kind query these c.self.invariant.0 c.args.self.now c.self.view_is
+          (subst (λ (m : Entry g.row.A.Denot). FollowsIfSome c.self.inside.world.tables (m.value.value) c.send_rows_of.new.query) is c.send_rows_of.ensures.follows);
+      planned = planned_then c.args.name.now c.self.inside.world s t c.self.inside.waiting c.self.inside.compared i x y
+          c.in-Some.ensures here refl name kind query these c.self.invariant.0 c.args.self.now c.self.view_is
+          (subst (λ (m : Entry g.row.A.Denot). StaysOrIsPlanned c.self.inside.world ((m.value.value).plan, (m.value.value).planned_at) ((c.send_rows_of.new.query).plan, (c.send_rows_of.new.query).planned_at)) is c.send_rows_of.ensures.planned);
+      fitting = fitting_then c.args.name.now c.self.inside.world s t c.self.inside.waiting c.self.inside.compared i x y
+          c.in-Some.ensures here refl name kind query these c.self.invariant.0 c.args.self.now c.self.view_is
+          c.send_rows_of.result c.send_rows_of.ensures.fitting;
+      reads = reads_then c.args.name.now c.self.inside.world s t c.self.inside.waiting c.self.inside.compared i x y
+          c.in-Some.ensures here refl name kind query these c.self.invariant.0 c.args.self.now c.self.view_is
+          c.send_rows_of.result c.send_rows_of.ensures.list c.send_rows_of.ensures.reads;
+      found = finds_then c.args.name.now c.self.inside.world s t c.self.inside.waiting c.self.inside.compared i x y
+          c.in-Some.ensures here refl name kind query these c.self.invariant.0 c.args.self.now c.self.view_is
+          c.send_rows_of.result c.send_rows_of.ensures.found;
+    }
 
 pub returns-in_default-clause-planned : goal.returns-in_default-clause-planned
 returns-in_default-clause-planned g c = inl refl
 
-pub returns-clause-planned : goal.returns-clause-planned
-returns-clause-planned g c =
-    let bs = made_of c.self.inside.stored in
-    let i = c.in-Some.place in
-    let x = c.index_mut-made.result.now in
-    let is = c.deref_mut.ensures.value in
-    let low = c.in-Some.ensures.0 in
-    let here = here_as bs i x low c.index_mut-made.ensures.value in
-    let m = c.deref_mut.result.now in
-    let y : Box g.row.A.Denot = with_value x (record { number = m.number; name = m.name; value = record { occasions = m.value.occasions; value = c.send_rows_of.new.query } }) in
-    let kind = c.send_rows_of.ensures.kind ∙ ap (λ (m : Entry g.row.A.Denot). (m.value.value).kind) is in
-    let query = c.send_rows_of.ensures.query ∙ ap (λ (m : Entry g.row.A.Denot). ((m.value.value).plan).query) is in
-    let these = c.send_rows_of.ensures.these ∙ ap (λ (m : Entry g.row.A.Denot). (m.value.value).these) is in
-    let name = ap (λ (m : Entry g.row.A.Denot). m.name) is in
-    let s = c.self.inside.stored in
-    let t : StoredQueries g.row.A.Denot = record {
-      all = record { order = record { made = with_item s.all.order.made i y; numbers = s.all.order.numbers }; index = s.all.index };
-      watches = s.watches;
-    } in
-    planned_then c.args.name.now c.self.inside.world s t c.self.inside.waiting c.self.inside.compared i x y
-    c.in-Some.ensures here refl name kind query these c.self.invariant.0 c.args.self.now c.self.view_is
-    (subst (λ (m : Entry g.row.A.Denot). StaysOrIsPlanned c.self.inside.world ((m.value.value).plan, (m.value.value).planned_at) ((c.send_rows_of.new.query).plan, (c.send_rows_of.new.query).planned_at)) is c.send_rows_of.ensures.planned)
-
-pub returns-clause-reads : goal.returns-clause-reads
-returns-clause-reads g c =
-    let bs = made_of c.self.inside.stored in
-    let i = c.in-Some.place in
-    let x = c.index_mut-made.result.now in
-    let is = c.deref_mut.ensures.value in
-    let low = c.in-Some.ensures.0 in
-    let here = here_as bs i x low c.index_mut-made.ensures.value in
-    let m = c.deref_mut.result.now in
-    let y : Box g.row.A.Denot = with_value x (record { number = m.number; name = m.name; value = record { occasions = m.value.occasions; value = c.send_rows_of.new.query } }) in
-    let kind = c.send_rows_of.ensures.kind ∙ ap (λ (m : Entry g.row.A.Denot). (m.value.value).kind) is in
-    let query = c.send_rows_of.ensures.query ∙ ap (λ (m : Entry g.row.A.Denot). ((m.value.value).plan).query) is in
-    let these = c.send_rows_of.ensures.these ∙ ap (λ (m : Entry g.row.A.Denot). (m.value.value).these) is in
-    let name = ap (λ (m : Entry g.row.A.Denot). m.name) is in
-    let s = c.self.inside.stored in
-    let t : StoredQueries g.row.A.Denot = record {
-      all = record { order = record { made = with_item s.all.order.made i y; numbers = s.all.order.numbers }; index = s.all.index };
-      watches = s.watches;
-    } in
-    reads_then c.args.name.now c.self.inside.world s t c.self.inside.waiting c.self.inside.compared i x y
-    c.in-Some.ensures here refl name kind query these c.self.invariant.0 c.args.self.now c.self.view_is
-    c.send_rows_of.result c.send_rows_of.ensures.list c.send_rows_of.ensures.reads
-
-pub returns-clause-found : goal.returns-clause-found
-returns-clause-found g c =
-    let bs = made_of c.self.inside.stored in
-    let i = c.in-Some.place in
-    let x = c.index_mut-made.result.now in
-    let is = c.deref_mut.ensures.value in
-    let low = c.in-Some.ensures.0 in
-    let here = here_as bs i x low c.index_mut-made.ensures.value in
-    let m = c.deref_mut.result.now in
-    let y : Box g.row.A.Denot = with_value x (record { number = m.number; name = m.name; value = record { occasions = m.value.occasions; value = c.send_rows_of.new.query } }) in
-    let kind = c.send_rows_of.ensures.kind ∙ ap (λ (m : Entry g.row.A.Denot). (m.value.value).kind) is in
-    let query = c.send_rows_of.ensures.query ∙ ap (λ (m : Entry g.row.A.Denot). ((m.value.value).plan).query) is in
-    let these = c.send_rows_of.ensures.these ∙ ap (λ (m : Entry g.row.A.Denot). (m.value.value).these) is in
-    let name = ap (λ (m : Entry g.row.A.Denot). m.name) is in
-    let s = c.self.inside.stored in
-    let t : StoredQueries g.row.A.Denot = record {
-      all = record { order = record { made = with_item s.all.order.made i y; numbers = s.all.order.numbers }; index = s.all.index };
-      watches = s.watches;
-    } in
-    finds_then c.args.name.now c.self.inside.world s t c.self.inside.waiting c.self.inside.compared i x y
-    c.in-Some.ensures here refl name kind query these c.self.invariant.0 c.args.self.now c.self.view_is
-    c.send_rows_of.result c.send_rows_of.ensures.found
-
-pub returns-clause-fitting : goal.returns-clause-fitting
-returns-clause-fitting g c =
-    let bs = made_of c.self.inside.stored in
-    let i = c.in-Some.place in
-    let x = c.index_mut-made.result.now in
-    let is = c.deref_mut.ensures.value in
-    let low = c.in-Some.ensures.0 in
-    let here = here_as bs i x low c.index_mut-made.ensures.value in
-    let m = c.deref_mut.result.now in
-    let y : Box g.row.A.Denot = with_value x (record { number = m.number; name = m.name; value = record { occasions = m.value.occasions; value = c.send_rows_of.new.query } }) in
-    let kind = c.send_rows_of.ensures.kind ∙ ap (λ (m : Entry g.row.A.Denot). (m.value.value).kind) is in
-    let query = c.send_rows_of.ensures.query ∙ ap (λ (m : Entry g.row.A.Denot). ((m.value.value).plan).query) is in
-    let these = c.send_rows_of.ensures.these ∙ ap (λ (m : Entry g.row.A.Denot). (m.value.value).these) is in
-    let name = ap (λ (m : Entry g.row.A.Denot). m.name) is in
-    let s = c.self.inside.stored in
-    let t : StoredQueries g.row.A.Denot = record {
-      all = record { order = record { made = with_item s.all.order.made i y; numbers = s.all.order.numbers }; index = s.all.index };
-      watches = s.watches;
-    } in
-    fitting_then c.args.name.now c.self.inside.world s t c.self.inside.waiting c.self.inside.compared i x y
-    c.in-Some.ensures here refl name kind query these c.self.invariant.0 c.args.self.now c.self.view_is
-    c.send_rows_of.result c.send_rows_of.ensures.fitting
-
 pub returns-in_default-clause-writes : goal.returns-in_default-clause-writes
 returns-in_default-clause-writes g c = refused_calm _ _ _
+
+pub place_of-requires : goal.place_of-requires
+place_of-requires g c = grind arith
+
+pub returns-in_default-clause-kept : goal.returns-in_default-clause-kept
+returns-in_default-clause-kept g c = grind arith
+
+pub returns-in_default-clause-same : goal.returns-in_default-clause-same
+returns-in_default-clause-same g c = grind arith
+
+pub index_mut-made-requires : goal.index_mut-made-requires
+index_mut-made-requires g c = grind arith

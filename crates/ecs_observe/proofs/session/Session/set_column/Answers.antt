@@ -1,4 +1,5 @@
 -- One error is judged after another, and the world sets the values.
+use Rattle.std.proofs.Common.{arith}
 use Rattle.std.specs.List.{list_any}
 use Rattle.std.specs.Prelude.{option_map}
 use Rattle.std.proofs.Common.{◌≡◌, true, false, is_some, length, sym, ap, ◌∙◌}
@@ -55,3 +56,60 @@ returns-clause-judged g c =
     = ap (λ (x : Standing). list_any (λ h. is_told h.kind) x.stored) (sym c.self.view_is) ∙ any_value (entries_of c.self.inside.stored) ∙ sym c.has_watch.ensures ∙ c.if-has_watch.false in
     tells_of_world now k i n free quiet
     ∙ ap (option_map OfWorld) (ap (λ (x : Standing). column_fault x.world k i n) (sym c.self.view_is) ∙ c.in_ok-set_column.ensures.judged)
+
+pub returns-then-has_events-clause-judged : goal.returns-then-has_events-clause-judged
+returns-then-has_events-clause-judged g c = grind arith
+
+pub returns-then-has_events-clause-unchanged : goal.returns-then-has_events-clause-unchanged
+returns-then-has_events-clause-unchanged g c = grind arith
+
+pub returns-then-has_events-clause-rest : goal.returns-then-has_events-clause-rest
+returns-then-has_events-clause-rest g c = grind arith
+
+pub returns-then-has_events-clause-goes_on : goal.returns-then-has_events-clause-goes_on
+returns-then-has_events-clause-goes_on g c = grind arith
+
+pub returns-then-has_events-clause-stay : goal.returns-then-has_events-clause-stay
+returns-then-has_events-clause-stay g c = grind arith
+
+pub has_watch-requires : goal.has_watch-requires
+has_watch-requires g c = grind arith
+
+pub returns-then-has_watch-clause-unchanged : goal.returns-then-has_watch-clause-unchanged
+returns-then-has_watch-clause-unchanged g c = grind arith
+
+pub returns-then-has_watch-clause-rest : goal.returns-then-has_watch-clause-rest
+returns-then-has_watch-clause-rest g c = grind arith
+
+pub returns-then-has_watch-clause-goes_on : goal.returns-then-has_watch-clause-goes_on
+returns-then-has_watch-clause-goes_on g c = grind arith
+
+pub returns-then-has_watch-clause-stay : goal.returns-then-has_watch-clause-stay
+returns-then-has_watch-clause-stay g c = grind arith
+
+pub invariant_of-self : goal.invariant_of-self
+invariant_of-self g c = grind arith
+
+pub returns-in_err-set_column-clause-set : goal.returns-in_err-set_column-clause-set
+returns-in_err-set_column-clause-set g c = grind arith
+
+pub returns-in_err-set_column-clause-unchanged : goal.returns-in_err-set_column-clause-unchanged
+returns-in_err-set_column-clause-unchanged g c = grind arith
+
+pub returns-in_err-set_column-clause-rest : goal.returns-in_err-set_column-clause-rest
+returns-in_err-set_column-clause-rest g c = grind arith
+
+pub returns-in_err-set_column-clause-goes_on : goal.returns-in_err-set_column-clause-goes_on
+returns-in_err-set_column-clause-goes_on g c = grind arith
+
+pub returns-in_err-set_column-clause-stay : goal.returns-in_err-set_column-clause-stay
+returns-in_err-set_column-clause-stay g c = grind arith
+
+pub returns-clause-rest : goal.returns-clause-rest
+returns-clause-rest g c = grind arith
+
+pub returns-clause-goes_on : goal.returns-clause-goes_on
+returns-clause-goes_on g c = grind arith
+
+pub returns-clause-stay : goal.returns-clause-stay
+returns-clause-stay g c = grind arith

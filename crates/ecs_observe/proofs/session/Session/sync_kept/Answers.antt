@@ -65,8 +65,8 @@ invariant_of-self g c =
       still_stored s t i x y low here name (ap (λ (m : Entry g.row.A.Denot). m.number) is) (ap (λ (m : Entry g.row.A.Denot). (m.value).occasions.items) is) kind query refl refl refl refl c.self.invariant.2,
     )
 
-pub returns-clause-refused : goal.returns-clause-refused
-returns-clause-refused g c =
+pub returns : goal.returns
+returns g c =
     let bs = made_of c.self.inside.stored in
     let i = c.in-Some.place in
     let x = c.index_mut-made.result.now in
@@ -84,100 +84,22 @@ returns-clause-refused g c =
       all = record { order = record { made = with_item s.all.order.made i y; numbers = s.all.order.numbers }; index = s.all.index };
       watches = s.watches;
     } in
-    refused_then c.args.name.now c.self.inside.world s t c.self.inside.waiting c.self.inside.compared i x y
-    c.in-Some.ensures here refl name kind query these c.self.invariant.0 c.args.self.now c.self.view_is c.sync_list_of.result
-    (subst (λ (m : Entry g.row.A.Denot). SyncsList c.sync_list_of.result (m.value.value).kind ((m.value.value).plan).query c.self.inside.world.tables c.sync_list_of.new.query.list) is c.sync_list_of.ensures.synced)
-
-pub returns-clause-current : goal.returns-clause-current
-returns-clause-current g c =
-    let bs = made_of c.self.inside.stored in
-    let i = c.in-Some.place in
-    let x = c.index_mut-made.result.now in
-    let is = c.deref_mut.ensures.value in
-    let low = c.in-Some.ensures.0 in
-    let here = here_as bs i x low c.index_mut-made.ensures.value in
-    let m = c.deref_mut.result.now in
-    let y : Box g.row.A.Denot = with_value x (record { number = m.number; name = m.name; value = record { occasions = m.value.occasions; value = c.sync_list_of.new.query } }) in
-    let kind = c.sync_list_of.ensures.kind ∙ ap (λ (m : Entry g.row.A.Denot). (m.value.value).kind) is in
-    let query = c.sync_list_of.ensures.query ∙ ap (λ (m : Entry g.row.A.Denot). ((m.value.value).plan).query) is in
-    let these = c.sync_list_of.ensures.these ∙ ap (λ (m : Entry g.row.A.Denot). (m.value.value).these) is in
-    let name = ap (λ (m : Entry g.row.A.Denot). m.name) is in
-    let s = c.self.inside.stored in
-    let t : StoredQueries g.row.A.Denot = record {
-      all = record { order = record { made = with_item s.all.order.made i y; numbers = s.all.order.numbers }; index = s.all.index };
-      watches = s.watches;
-    } in
-    synced_then c.args.name.now c.self.inside.world s t c.self.inside.waiting c.self.inside.compared i x y
-    c.in-Some.ensures here refl name kind query these c.self.invariant.0 c.args.self.now c.self.view_is c.sync_list_of.result
-    (subst (λ (m : Entry g.row.A.Denot). SyncsList c.sync_list_of.result (m.value.value).kind ((m.value.value).plan).query c.self.inside.world.tables c.sync_list_of.new.query.list) is c.sync_list_of.ensures.synced)
-
-pub returns-clause-same : goal.returns-clause-same
-returns-clause-same g c =
-    let bs = made_of c.self.inside.stored in
-    let i = c.in-Some.place in
-    let x = c.index_mut-made.result.now in
-    let is = c.deref_mut.ensures.value in
-    let low = c.in-Some.ensures.0 in
-    let here = here_as bs i x low c.index_mut-made.ensures.value in
-    let m = c.deref_mut.result.now in
-    let y : Box g.row.A.Denot = with_value x (record { number = m.number; name = m.name; value = record { occasions = m.value.occasions; value = c.sync_list_of.new.query } }) in
-    let kind = c.sync_list_of.ensures.kind ∙ ap (λ (m : Entry g.row.A.Denot). (m.value.value).kind) is in
-    let query = c.sync_list_of.ensures.query ∙ ap (λ (m : Entry g.row.A.Denot). ((m.value.value).plan).query) is in
-    let these = c.sync_list_of.ensures.these ∙ ap (λ (m : Entry g.row.A.Denot). (m.value.value).these) is in
-    let name = ap (λ (m : Entry g.row.A.Denot). m.name) is in
-    let s = c.self.inside.stored in
-    let t : StoredQueries g.row.A.Denot = record {
-      all = record { order = record { made = with_item s.all.order.made i y; numbers = s.all.order.numbers }; index = s.all.index };
-      watches = s.watches;
-    } in
-    same_then c.args.name.now c.self.inside.world s t c.self.inside.waiting c.self.inside.compared i x y
-    c.in-Some.ensures here refl name kind query these c.self.invariant.0 c.args.self.now c.self.view_is
-
-pub returns-clause-lists : goal.returns-clause-lists
-returns-clause-lists g c =
-    let bs = made_of c.self.inside.stored in
-    let i = c.in-Some.place in
-    let x = c.index_mut-made.result.now in
-    let is = c.deref_mut.ensures.value in
-    let low = c.in-Some.ensures.0 in
-    let here = here_as bs i x low c.index_mut-made.ensures.value in
-    let m = c.deref_mut.result.now in
-    let y : Box g.row.A.Denot = with_value x (record { number = m.number; name = m.name; value = record { occasions = m.value.occasions; value = c.sync_list_of.new.query } }) in
-    let kind = c.sync_list_of.ensures.kind ∙ ap (λ (m : Entry g.row.A.Denot). (m.value.value).kind) is in
-    let query = c.sync_list_of.ensures.query ∙ ap (λ (m : Entry g.row.A.Denot). ((m.value.value).plan).query) is in
-    let these = c.sync_list_of.ensures.these ∙ ap (λ (m : Entry g.row.A.Denot). (m.value.value).these) is in
-    let name = ap (λ (m : Entry g.row.A.Denot). m.name) is in
-    let s = c.self.inside.stored in
-    let t : StoredQueries g.row.A.Denot = record {
-      all = record { order = record { made = with_item s.all.order.made i y; numbers = s.all.order.numbers }; index = s.all.index };
-      watches = s.watches;
-    } in
-    follows_then c.args.name.now c.self.inside.world s t c.self.inside.waiting c.self.inside.compared i x y
-    c.in-Some.ensures here refl name kind query these c.self.invariant.0 c.args.self.now c.self.view_is
-    (subst (λ (m : Entry g.row.A.Denot). FollowsIfSome c.self.inside.world.tables (m.value.value) c.sync_list_of.new.query) is c.sync_list_of.ensures.follows)
-
-pub returns-clause-plan : goal.returns-clause-plan
-returns-clause-plan g c =
-    let bs = made_of c.self.inside.stored in
-    let i = c.in-Some.place in
-    let x = c.index_mut-made.result.now in
-    let is = c.deref_mut.ensures.value in
-    let low = c.in-Some.ensures.0 in
-    let here = here_as bs i x low c.index_mut-made.ensures.value in
-    let m = c.deref_mut.result.now in
-    let y : Box g.row.A.Denot = with_value x (record { number = m.number; name = m.name; value = record { occasions = m.value.occasions; value = c.sync_list_of.new.query } }) in
-    let kind = c.sync_list_of.ensures.kind ∙ ap (λ (m : Entry g.row.A.Denot). (m.value.value).kind) is in
-    let query = c.sync_list_of.ensures.query ∙ ap (λ (m : Entry g.row.A.Denot). ((m.value.value).plan).query) is in
-    let these = c.sync_list_of.ensures.these ∙ ap (λ (m : Entry g.row.A.Denot). (m.value.value).these) is in
-    let name = ap (λ (m : Entry g.row.A.Denot). m.name) is in
-    let s = c.self.inside.stored in
-    let t : StoredQueries g.row.A.Denot = record {
-      all = record { order = record { made = with_item s.all.order.made i y; numbers = s.all.order.numbers }; index = s.all.index };
-      watches = s.watches;
-    } in
-    same_plan c.args.name.now c.self.inside.world s t c.self.inside.waiting c.self.inside.compared i x y
-    c.in-Some.ensures here refl name kind query these c.self.invariant.0 c.args.self.now c.self.view_is
-    (λ j. (
-      (c.sync_list_of.ensures.plan ∙ ap (λ (m : Entry g.row.A.Denot). (m.value.value).plan) is) j,
-      (c.sync_list_of.ensures.planned_at ∙ ap (λ (m : Entry g.row.A.Denot). (m.value.value).planned_at) is) j,
-    ))
+    record {
+      refused = refused_then c.args.name.now c.self.inside.world s t c.self.inside.waiting c.self.inside.compared i x y
+          c.in-Some.ensures here refl name kind query these c.self.invariant.0 c.args.self.now c.self.view_is c.sync_list_of.result
+          (subst (λ (m : Entry g.row.A.Denot). SyncsList c.sync_list_of.result (m.value.value).kind ((m.value.value).plan).query c.self.inside.world.tables c.sync_list_of.new.query.list) is c.sync_list_of.ensures.synced);
+      current = synced_then c.args.name.now c.self.inside.world s t c.self.inside.waiting c.self.inside.compared i x y
+          c.in-Some.ensures here refl name kind query these c.self.invariant.0 c.args.self.now c.self.view_is c.sync_list_of.result
+          (subst (λ (m : Entry g.row.A.Denot). SyncsList c.sync_list_of.result (m.value.value).kind ((m.value.value).plan).query c.self.inside.world.tables c.sync_list_of.new.query.list) is c.sync_list_of.ensures.synced);
+      same = same_then c.args.name.now c.self.inside.world s t c.self.inside.waiting c.self.inside.compared i x y
+          c.in-Some.ensures here refl name kind query these c.self.invariant.0 c.args.self.now c.self.view_is;
+      lists = follows_then c.args.name.now c.self.inside.world s t c.self.inside.waiting c.self.inside.compared i x y
+          c.in-Some.ensures here refl name kind query these c.self.invariant.0 c.args.self.now c.self.view_is
+          (subst (λ (m : Entry g.row.A.Denot). FollowsIfSome c.self.inside.world.tables (m.value.value) c.sync_list_of.new.query) is c.sync_list_of.ensures.follows);
+      plan = same_plan c.args.name.now c.self.inside.world s t c.self.inside.waiting c.self.inside.compared i x y
+          c.in-Some.ensures here refl name kind query these c.self.invariant.0 c.args.self.now c.self.view_is
+          (λ j. (
+            (c.sync_list_of.ensures.plan ∙ ap (λ (m : Entry g.row.A.Denot). (m.value.value).plan) is) j,
+            (c.sync_list_of.ensures.planned_at ∙ ap (λ (m : Entry g.row.A.Denot). (m.value.value).planned_at) is) j,
+          ));
+    }
