@@ -42,5 +42,13 @@ pub(crate) fn place_of(bytes: &[u8], byte: u8) -> Option<usize>
 
 /// Whether these are one to so many digits.
 pub(crate) fn is_number(bytes: &[u8], most: usize) -> bool {
-    !bytes.is_empty() && bytes.len() <= most && bytes.iter().all(|b| b.is_ascii_digit())
+    if bytes.is_empty() || bytes.len() > most {
+        return false;
+    }
+    for byte in bytes {
+        if !byte.is_ascii_digit() {
+            return false;
+        }
+    }
+    true
 }

@@ -27,7 +27,7 @@ pub(crate) fn write_explanation<A: Allocator>(
     write_parts(out, &[file, ":", refusal.number, ": ", refusal.kind, "\n"])?;
     let Some(line) = script.refused_line() else {
         write_sentence(refusal.kind, out)?;
-        return write_parts(out, &["\n"]);
+        return write_text("\n", out);
     };
     if refusal.kind == "BadLine" {
         let misfit = misfit_of(line);
@@ -38,7 +38,12 @@ pub(crate) fn write_explanation<A: Allocator>(
     write_quoted(line, finding.part, out)?;
     write_sentence(refusal.kind, out)?;
     write_advice(finding.advice, out)?;
-    write_parts(out, &["\n"])
+    write_text("\n", out)
+}
+
+/// Writes a text.
+fn write_text<A: Allocator>(text: &str, out: &mut Vec<u8, A>) -> Result<(), AllocError> {
+    out.extend_from_slice(text.as_bytes())
 }
 
 /// Writes texts one after the other.
@@ -63,28 +68,27 @@ fn write_advice<A: Allocator>(advice: Advice<'_>, out: &mut Vec<u8, A>) -> Resul
         Advice::Nothing => Ok(()),
         Advice::Sentence(sentence) => write_parts(out, &[" ", sentence]),
         Advice::Range(range) => write_parts(out, &[" ", range.text, "."]),
-        Advice::Name(name) => {
-            write_parts(out, &[" Did you mean `"])?;
-            write_quote(true, name, out)?;
-            write_parts(out, &["`?"])
-        }
-        Advice::QueryName(command) => write_parts(
-            out,
-            &[
-                " The query's name is missing: the form is `",
-                command.form(),
-                "`.",
-            ],
-        ),
-        Advice::QueryText(command) => write_parts(
-            out,
-            &[
-                " The query's name or its text is missing: the form is `",
-                command.form(),
-                "`.",
-            ],
-        ),
+        Advice::Name(name) => write_name_meant(name, out),
+        Advice::QueryName(command) => write_missing("name is", command, out),
+        Advice::QueryText(command) => write_missing("name or its text is", command, out),
     }
+}
+
+/// Asks whether a name was meant.
+fn write_name_meant<A: Allocator>(name: &[u8], out: &mut Vec<u8, A>) -> Result<(), AllocError> {
+    write_text(" Did you mean `", out)?;
+    write_quote(true, name, out)?;
+    write_text("`?", out)
+}
+
+/// Writes what a command lacks of its query, and its form.
+fn write_missing<A: Allocator>(
+    lacking: &'static str,
+    command: Command,
+    out: &mut Vec<u8, A>,
+) -> Result<(), AllocError> {
+    write_parts(out, &[" The query's ", lacking, " missing: the form is `"])?;
+    write_parts(out, &[command.form(), "`."])
 }
 
 /// Writes a line and the marks under a part of it. Of a long line its first bytes are quoted, up to the part at least.
@@ -96,17 +100,40 @@ fn write_quoted<A: Allocator>(
     requires { IfSome part (IsWithin line.now) }
 {
     let is_text = std::str::from_utf8(line).is_ok();
-    let end = quoted_end(line, part);
-    write_parts(out, &["  "])?;
+    write_start(is_text, line, quoted_end(line, part), out)?;
+    match part {
+        Some(part) => write_marked(is_text, line, part, out),
+        None => Ok(()),
+    }
+}
+
+/// Writes so many bytes of a line, and whether more follow.
+fn write_start<A: Allocator>(
+    is_text: bool,
+    line: &[u8],
+    end: usize,
+    out: &mut Vec<u8, A>,
+) -> Result<(), AllocError>
+    requires { end ≤ length line.now }
+{
+    write_text("  ", out)?;
     write_quote(is_text, &line[..end], out)?;
     let is_whole = end >= len_without_blanks(line);
-    write_parts(out, &[if is_whole { "\n" } else { " ..\n" }])?;
-    let Some(part) = part else {
-        return Ok(());
-    };
-    write_parts(out, &["  "])?;
+    write_text(if is_whole { "\n" } else { " ..\n" }, out)
+}
+
+/// Writes marks under a part of a line.
+fn write_marked<A: Allocator>(
+    is_text: bool,
+    line: &[u8],
+    part: Part,
+    out: &mut Vec<u8, A>,
+) -> Result<(), AllocError>
+    requires { IsWithin line.now part }
+{
+    write_text("  ", out)?;
     write_marks(is_text, line, part, out)?;
-    write_parts(out, &["\n"])
+    write_text("\n", out)
 }
 
 /// Up to where a line is quoted: without blanks at its end, and the first bytes of a long one, with the marked part.
@@ -114,7 +141,10 @@ fn quoted_end(line: &[u8], part: Option<Part>) -> usize
     requires { IfSome part (IsWithin line.now) }
     ensures { result ≤ length line.now }
 {
-    let least = part.map_or(0, |part| part.end);
+    let least = match part {
+        Some(part) => part.end,
+        None => 0,
+    };
     len_without_blanks(line).min(MOST_QUOTED).max(least)
 }
 
@@ -126,20 +156,25 @@ fn write_misfit<A: Allocator>(
 ) -> Result<(), AllocError>
     requires { IsWithin line.now misfit.now.part }
 {
-    let word = misfit.part.of(line);
-    write_parts(out, &["  "])?;
-    if is_named(misfit.reason) && word.len() <= MOST_QUOTED {
-        write_parts(out, &["`"])?;
-        write_quote(true, word, out)?;
-        write_parts(out, &["` "])?;
-    } else if is_named(misfit.reason) {
-        write_parts(out, &["What is marked "])?;
+    write_text("  ", out)?;
+    if is_named(misfit.reason) {
+        write_word(misfit.part.of(line), out)?;
     }
-    write_parts(out, &[reason_text(misfit.reason)])?;
+    write_text(reason_text(misfit.reason), out)?;
     match form_meant(misfit) {
         Some(command) => write_parts(out, &["`", command.form(), "`.\n"]),
-        None => write_parts(out, &["\n"]),
+        None => write_text("\n", out),
     }
+}
+
+/// Writes what doesn't fit, or that it is what is marked, where it is long.
+fn write_word<A: Allocator>(word: &[u8], out: &mut Vec<u8, A>) -> Result<(), AllocError> {
+    if word.len() > MOST_QUOTED {
+        return write_text("What is marked ", out);
+    }
+    write_text("`", out)?;
+    write_quote(true, word, out)?;
+    write_text("` ", out)
 }
 
 /// The form that the line has, or the nearest one.

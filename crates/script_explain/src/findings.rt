@@ -101,7 +101,10 @@ fn part_of_span(line: &[u8], command: Command, span: Option<(usize, usize)>) -> 
 
 /// What the table of hints has at a part of a line.
 fn hint_advice<'a>(kind: &str, line: &[u8], part: Option<Part>) -> Advice<'a> {
-    match part.and_then(|part| hint_of(kind, line, part)) {
+    let Some(part) = part else {
+        return Advice::Nothing;
+    };
+    match hint_of(kind, line, part) {
         Some(hint) => Advice::Sentence(hint),
         None => Advice::Nothing,
     }
@@ -227,12 +230,21 @@ fn query_advice<'a, A: Allocator>(
 
 /// What is said of a new name that is none: before the text of a query it may be missing.
 fn bad_name_advice<'a>(command: Command, name: &[u8]) -> Advice<'a> {
-    let is_text = |byte: &u8| b"(),!?$*|{}[]=".contains(byte);
-    if command.words_before_text() > 1 && name.iter().any(is_text) {
+    if command.words_before_text() > 1 && has_mark(name) {
         Advice::QueryName(command)
     } else {
         Advice::Nothing
     }
+}
+
+/// Whether a mark that the text of a query has, and no name, stands in a word.
+fn has_mark(word: &[u8]) -> bool {
+    for byte in word {
+        if b"(),!?$*|{}[]=".contains(byte) {
+            return true;
+        }
+    }
+    false
 }
 
 /// The first value of a `set` that is outside the range of its field's kind, where the component's fields are known.

@@ -24,7 +24,7 @@ struct Hint {
 }
 
 /// For characters with which nothing in a query begins. Of each table the first that fits is given.
-const OF_CHARACTERS: [Hint; 11] = [
+static OF_CHARACTERS: [Hint; 11] = [
     Hint {
         before: "(",
         at: At::Token("$", ")"),
@@ -83,7 +83,7 @@ const OF_CHARACTERS: [Hint; 11] = [
 ];
 
 /// For tokens with which no query goes on.
-const OF_TOKENS: [Hint; 17] = [
+static OF_TOKENS: [Hint; 17] = [
     Hint {
         before: "",
         at: At::Token("{", ""),
@@ -172,7 +172,7 @@ const OF_TOKENS: [Hint; 17] = [
 ];
 
 /// For names that no entity has.
-const OF_NAMES: [Hint; 4] = [
+static OF_NAMES: [Hint; 4] = [
     Hint {
         before: "",
         at: At::Token("0", ""),
@@ -207,16 +207,18 @@ pub(crate) fn hint_of(kind: &str, line: &[u8], part: Part) -> Option<&'static st
 
 /// The sentence of the first of these that fits.
 fn sentence_among(hints: &[Hint], line: &[u8], part: Part) -> Option<&'static str> {
-    hints
-        .iter()
-        .find(|hint| hint.fits(line, part))
-        .map(|hint| hint.sentence)
+    for hint in hints {
+        if hint.fits(line, part) {
+            return Some(hint.sentence);
+        }
+    }
+    None
 }
 
 impl Hint {
     /// Whether a line has this form at a part.
     fn fits(&self, line: &[u8], part: Part) -> bool {
-        let (Some(before), Some(rest)) = (line.get(..part.start), line.get(part.start..)) else {
+        let Some((before, rest)) = line.split_at_checked(part.start) else {
             return false;
         };
         ends_with(&before[..len_without_blanks(before)], self.before)
@@ -233,7 +235,7 @@ impl At {
                 Some(after) => rest_after(&after[blanks_at_start(after)..], next).is_some(),
                 None => false,
             },
-            At::Digit => marked.first().is_some_and(|byte| byte.is_ascii_digit()),
+            At::Digit => matches!(marked, [byte, ..] if byte.is_ascii_digit()),
             At::Holding(text) => match std::str::from_utf8(marked) {
                 Ok(name) => name.contains(text),
                 Err(_) => false,
@@ -245,8 +247,7 @@ impl At {
 /// What stands after a token at the start of a text. A word is a whole one there, whatever its case.
 fn rest_after<'a>(text: &'a [u8], token: &str) -> Option<&'a [u8]> {
     let (start, rest) = text.split_at_checked(token.len())?;
-    let is_part = token.ends_with(|last: char| last.is_ascii_alphabetic())
-        && rest.first().is_some_and(|byte| goes_on(*byte));
+    let is_part = is_word(token) && matches!(rest, [byte, ..] if goes_on(*byte));
     if start.eq_ignore_ascii_case(token.as_bytes()) && !is_part {
         Some(rest)
     } else {
@@ -256,16 +257,17 @@ fn rest_after<'a>(text: &'a [u8], token: &str) -> Option<&'a [u8]> {
 
 /// Whether a text ends with a token. A word is a whole one there, whatever its case.
 fn ends_with(text: &[u8], token: &str) -> bool {
-    let Some((rest, end)) = text
-        .len()
-        .checked_sub(token.len())
-        .and_then(|at| text.split_at_checked(at))
-    else {
+    if text.len() < token.len() {
         return false;
-    };
-    let is_part = token.ends_with(|last: char| last.is_ascii_alphabetic())
-        && rest.last().is_some_and(|byte| goes_on(*byte));
+    }
+    let (rest, end) = text.split_at(text.len() - token.len());
+    let is_part = is_word(token) && matches!(rest, [.., byte] if goes_on(*byte));
     end.eq_ignore_ascii_case(token.as_bytes()) && !is_part
+}
+
+/// Whether a token is a word: its last byte is a letter.
+fn is_word(token: &str) -> bool {
+    matches!(token.as_bytes(), [.., last] if last.is_ascii_alphabetic())
 }
 
 /// Whether a byte goes on with a name.

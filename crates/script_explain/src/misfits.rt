@@ -108,13 +108,11 @@ fn rest_fault(command: Command, line: &[u8], from: usize) -> OrMisfit<()>
             no_more(line, entity.end)
         }
         Command::Add | Command::Remove => {
-            let entity = entity_from(line, from)?;
-            let id = id_from(line, entity.end)?;
+            let id = id_of_fact(line, from)?;
             no_more(line, id.end)
         }
         Command::Set => {
-            let entity = entity_from(line, from)?;
-            let id = id_from(line, entity.end)?;
+            let id = id_of_fact(line, from)?;
             some_word(line, id.end)?;
             words_from(line, id.end, false)
         }
@@ -123,10 +121,14 @@ fn rest_fault(command: Command, line: &[u8], from: usize) -> OrMisfit<()>
             words_from(line, name.end, true)
         }
         Command::Query => Ok(()),
-        Command::Keep | Command::Monitor => some_word(line, from).map(|_| ()),
+        Command::Keep | Command::Monitor => {
+            some_word(line, from)?;
+            Ok(())
+        }
         Command::On => {
             let event = event_from(line, from)?;
-            some_word(line, event.end).map(|_| ())
+            some_word(line, event.end)?;
+            Ok(())
         }
     }
 }
@@ -185,13 +187,22 @@ fn entity_from(line: &[u8], from: usize) -> OrMisfit<Part>
 
 /// Why a word names no entity.
 fn reference_fault(word: &[u8]) -> Option<Reason> {
-    let parts = |byte: &u8| is_blank(*byte) || matches!(*byte, b'(' | b')' | b',');
     match word {
         [] => Some(Reason::Reference),
-        _ if word.iter().any(parts) => Some(Reason::Reference),
+        _ if has_several_parts(word) => Some(Reason::Reference),
         [b'#', handle @ ..] if !is_handle(handle) => Some(Reason::Handle),
         _ => None,
     }
+}
+
+/// Whether a blank, a bracket or a comma stands in a word.
+fn has_several_parts(word: &[u8]) -> bool {
+    for byte in word {
+        if is_blank(*byte) || matches!(*byte, b'(' | b')' | b',') {
+            return true;
+        }
+    }
+    false
 }
 
 /// Whether a text is that of a handle after its `#`.
@@ -223,6 +234,16 @@ fn id_from(line: &[u8], from: usize) -> OrMisfit<Part>
     };
     let end = word.start + length + 1;
     pair_at(line, Part { end, ..word })
+}
+
+/// The id after an entity.
+fn id_of_fact(line: &[u8], from: usize) -> OrMisfit<Part>
+    requires { from ≤ length line.now }
+    ensures word { IfOk result (IsWithin line.now) }
+    ensures fault { IfErr result (λ e. IsWithin line.now e.0) }
+{
+    let entity = entity_from(line, from)?;
+    id_from(line, entity.end)
 }
 
 /// A pair in its brackets, after which a blank or the end of the line has to stand.
@@ -329,10 +350,14 @@ fn event_from(line: &[u8], from: usize) -> OrMisfit<Part>
     ensures fault { IfErr result (λ e. IsWithin line.now e.0) }
 {
     let word = some_word(line, from)?;
-    let events: [&[u8]; 3] = [b"add", b"remove", b"set"];
-    if events.iter().any(|event| *event == word.of(line)) {
+    if is_event(word.of(line)) {
         Ok(word)
     } else {
         Err((word, Reason::Event))
     }
+}
+
+/// Whether a word is that of an event.
+fn is_event(word: &[u8]) -> bool {
+    matches!(word, b"add" | b"remove" | b"set")
 }

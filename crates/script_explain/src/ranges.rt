@@ -3,13 +3,13 @@
 /// A kind of field, and the least and the greatest value that it takes.
 #[derive(Clone, Copy)]
 pub(crate) struct Range {
-    pub word: &'static str,
+    word: &'static str,
     least: i128,
     most: i128,
     pub text: &'static str,
 }
 
-const RANGES: [Range; 8] = [
+static RANGES: [Range; 8] = [
     Range {
         word: "i8",
         least: -0x80,
@@ -75,8 +75,10 @@ impl Range {
 
 /// The range of the kind that a word is.
 pub(crate) fn range_of(word: &[u8]) -> Option<Range> {
-    RANGES
-        .iter()
-        .find(|range| range.word.as_bytes() == word)
-        .copied()
+    for range in &RANGES {
+        if range.word.as_bytes() == word {
+            return Some(*range);
+        }
+    }
+    None
 }

@@ -12,7 +12,7 @@ use std::alloc::{Allocator, Global};
 const MOST_ADVISED: usize = 1_000;
 
 /// In the order of their indexes.
-const BUILT_IN: [&str; 22] = [
+static BUILT_IN: [&str; 22] = [
     "ChildOf",
     "IsA",
     "Component",
@@ -54,6 +54,16 @@ pub struct Script<A: Allocator = Global> {
     names: MadeNames<A>,
 
     ghost within: { start ≤ length bytes.items },
+}
+
+/// Whether a built-in entity has a name.
+fn is_built_in(name: &[u8]) -> bool {
+    for built_in in &BUILT_IN {
+        if built_in.as_bytes() == name {
+            return true;
+        }
+    }
+    false
 }
 
 impl<A: Allocator + Copy> Script<A> {
@@ -143,7 +153,12 @@ impl<A: Allocator> Script<A> {
     /// The last of those with a name.
     fn last<'a>(&self, names: &'a Names<A>, name: &[u8]) -> Option<&'a Made> {
         let made = self.made(names);
-        made.iter().rev().find(|made| self.text(made.name) == name)
+        for last in made.iter().rev() {
+            if self.text(last.name) == name {
+                return Some(last);
+            }
+        }
+        None
     }
 
     /// Whether an entity had a name, as far as the names are kept.
@@ -157,7 +172,7 @@ impl<A: Allocator> Script<A> {
         self.refused <= MOST_ADVISED
             && self.names.are_all_entities()
             && !self.has_made(name)
-            && !BUILT_IN.iter().any(|built_in| built_in.as_bytes() == name)
+            && !is_built_in(name)
     }
 
     /// The words of the last line that made a component of this name, from the fields on.
@@ -172,7 +187,8 @@ impl<A: Allocator> Script<A> {
 
     /// What was stored last under a name.
     pub(crate) fn stored(&self, name: &[u8]) -> Option<Sort> {
-        self.last(&self.names.queries, name).map(|made| made.sort)
+        let made = self.last(&self.names.queries, name)?;
+        Some(made.sort)
     }
 
     /// The name of an entity that is nearest to a word, if one is near.
@@ -180,7 +196,7 @@ impl<A: Allocator> Script<A> {
         ensures { IfSome result (λ name. IsNear word.now name.now) }
     {
         let mut found = None;
-        for name in BUILT_IN {
+        for name in &BUILT_IN {
             found = nearer(word, found, name.as_bytes());
         }
         for made in self.made(&self.names.components) {
@@ -189,7 +205,8 @@ impl<A: Allocator> Script<A> {
         for made in self.made(&self.names.entities) {
             found = nearer(word, found, self.text(made.name));
         }
-        found.map(|near| near.name)
+        let near = found?;
+        Some(near.name)
     }
 
     /// The name of a query that is nearest to a word, if one is near.
@@ -202,6 +219,7 @@ impl<A: Allocator> Script<A> {
                 found = nearer(word, found, self.text(made.name));
             }
         }
-        found.map(|near| near.name)
+        let near = found?;
+        Some(near.name)
     }
 }
