@@ -136,13 +136,16 @@ def switched(relationship):
     return [(1, world + lines), (-1, world)], COMMANDS
 
 
-# queries that nobody answers, by what they ask of ancestors, of reach or of others
+# queries that nobody answers, by what they ask of ancestors, of reach or of others; no list of tables leads the last three
 BY_TABLES = {
     "up": "[none] Position, Flying(up)",
     "reach": "Position, !(In,Root)",
     "lacks_up": "Position, !Boss(up IsA)",
     "either": "Position, Flying(up IsA) || Other",
     "others": "Position, !{ (In,$x), Boss($x) }",
+    "up_alone": "Flying(self|up)",
+    "either_alone": "Flying || Other",
+    "any_up": "Flying(up IsA) || Other(up) || Flying",
 }
 ENTITIES = [1_000, 4_000, 16_000]
 # So often that what the hashes of the world vary by is little of it.

@@ -26,7 +26,7 @@ pub(crate) const PLANE: usize = 8;
 const TEXT: &str = "Position, Velocity";
 
 /// The workloads.
-const NAMES: [&str; 8] = [
+static NAMES: [&str; 8] = [
     "ids",
     "values",
     "row_ids",

@@ -15,7 +15,7 @@ use std::alloc::{AllocError, Global};
 use std::io;
 
 /// The texts by name: one that has all that a query may have, and some that try to be slow.
-const TEXTS: [&str; 9] = [
+static TEXTS: [&str; 9] = [
     "terms",
     "plain",
     "alternatives",

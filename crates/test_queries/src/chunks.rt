@@ -43,7 +43,7 @@ const MOLD: u32 = 73;
 const GONE: u32 = 74;
 
 /// Queries with chunks, and how many rows each has.
-const QUERIES: [(&str, usize); 12] = [
+static QUERIES: [(&str, usize); 12] = [
     ("Position", 3),
     ("[none] Position, ?Mass, !Frozen", 2),
     ("Frozen || Mass", 3),
@@ -62,7 +62,7 @@ const QUERIES: [(&str, usize); 12] = [
 ];
 
 /// Entities with a position, a mass and tags, of which one is disabled and one a prefab.
-const WORLD: Base = Base {
+static WORLD: Base = Base {
     components: &["Position", "Mass"],
     names: &[
         "Frozen", "Likes", "Sun", "Earth", "Moon", "Rock", "Ghost", "Mold",

@@ -2,7 +2,7 @@
 
 ghost use Rattle.world_facts.specs.Kept.{AreTablesOf};
 
-use component_index::ListedKey;
+use ecs_id::ListedKey;
 use ecs_world::World;
 use query_cache::Kept;
 use query_check::Query;

@@ -31,7 +31,7 @@ const PLAIN_MODES: usize = 3;
 const FEW_STEPS: usize = 6;
 
 /// Each entity, and then the test of the only term.
-const BY_EACH: [Step; 2] = [Step::Every(0), Step::Deal(Mode::Check, 0)];
+static BY_EACH: [Step; 2] = [Step::Every(0), Step::Deal(Mode::Check, 0)];
 
 /// A query in a world, and the rows that it should give.
 #[derive(Clone, Copy)]

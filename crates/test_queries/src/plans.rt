@@ -14,7 +14,7 @@ use std::test::Fail;
 type Judged = (&'static str, &'static [Step], Option<PlanRefusal>);
 
 /// A group that waits for its variables, a closed term with a variable at its end, and two terms.
-const JUDGED: [Judged; 14] = [
+static JUDGED: [Judged; 14] = [
     (
         WAITING,
         &[Deal(Scan, 2), Enter(0), Deal(Check, 1), Leave],
@@ -96,7 +96,7 @@ fn steps_are_a_plan_or_not(rt: HostRuntime) -> Result<(), Fail> {
 type Planned = (&'static str, &'static [usize], &'static [Step]);
 
 /// The shortest list comes first, and what is tied to bound variables before others.
-const PLANNED: [Planned; 9] = [
+static PLANNED: [Planned; 9] = [
     (PARENTS, &[5, 1], &[Deal(Scan, 1), Deal(Scan, 0)]),
     (PARENTS, &[1, 5], &[Deal(Scan, 0), Deal(Check, 1)]),
     (PARENTS, &[1, 1], &[Deal(Scan, 0), Deal(Check, 1)]),

@@ -1,9 +1,12 @@
 //! A simple query makes no more probes than is promised of it.
 
 ghost use Rattle.std.specs.Prelude.{ℕ, ◌≡◌, ◌≤◌, ◌<◌, ◌*◌, IfOk, length, slice_index, true};
+ghost use Rattle.plan_steps.specs.Factual.{IsFactual};
+ghost use Rattle.query_meaning.specs.Names.{GoesUpWithoutCycles};
 ghost use Rattle.query_meaning.specs.Variables.{entries, entry_at};
 ghost use Rattle.query_model.specs.Local.{is_simple};
 ghost use Rattle.query_plan.specs.Simple.{is_leading};
+ghost use Rattle.test_queries.specs.Probes.{StaysWithinSteps};
 ghost use Rattle.world_facts.specs.Lists.{ListsTables};
 ghost use Rattle.world_facts.specs.Shown.{Shown, reading_of};
 ghost use Rattle.world_query.specs.Answerable.{IsAsked, table_counts};
@@ -16,6 +19,7 @@ use ecs_world::World;
 use plan_exec::{Frames, Run};
 use plan_steps::Facts;
 use query_check::Query;
+use query_plan::Plan;
 use std::alloc::{AllocError, Allocator, Global};
 use std::process::Abort;
 use std::test::Fail;
@@ -40,6 +44,26 @@ fn pull<F: Facts, A: Allocator>(run: &mut Run<'_, F, A>, row: &mut [u32], most: 
     }
 }
 
+/// Pulls some rows of a plan over any facts, and says how many probes were made till then: no more than its steps allow.
+fn probes_over<F: Facts>(
+    alloc: Global,
+    facts: &F,
+    plan: &Plan,
+    most: usize,
+) -> Result<u64, AllocError>
+    requires { GoesUpWithoutCycles (F.reading facts.now).view (plan.now).query }
+    ensures factual { IsFactual (F.reading facts.now) }
+    ensures within { IfOk result (StaysWithinSteps (F.reading facts.now) plan.now) }
+{
+    facts.keeps();
+    rising_queries_start();
+    let frames = Frames::of(alloc, plan.query(), plan.steps(), facts.size())?;
+    let mut row = vec![in alloc; 0; frames.width()]?;
+    let mut run = Run::start(frames, facts);
+    pull(&mut run, row.as_mut_slice(), most);
+    Ok(run.probes())
+}
+
 /// Plans a simple query in a world, pulls some of its rows there, and says how many probes were made till then: at most
 /// as many as the query has items times the tables of each item that must match, whatever facts of the world count
 /// these.
@@ -51,19 +75,15 @@ fn probes_of(alloc: Global, world: &World, query: Query, most: usize) -> Result<
         → probes ≤ length (entries query) * slice_index (table_counts (reading_of s) query) j) }
 {
     world.keeps();
-    rising_queries_start();
     asked_queries_have_terms();
     facts_count_alike();
     planned_queries_stay_within_their_probes();
     let plan = plan_in(alloc, world, query)?;
     let facts = WorldFacts::new(world);
     facts.keeps_lists();
-    facts.keeps();
-    let frames = Frames::of(alloc, plan.query(), plan.steps(), facts.size())?;
-    let mut row = vec![in alloc; 0; frames.width()]?;
-    let mut run = Run::start(frames, &facts);
-    pull(&mut run, row.as_mut_slice(), most);
-    Ok(run.probes())
+    let probes = probes_over(alloc, &facts, &plan, most);
+    drop(plan);
+    probes
 }
 
 /// A query's text is read, and its rows are pulled where it is simple.

@@ -33,17 +33,39 @@ fn with_field(number: u64, world: &World, rows: &Rows<'_, Global>, place: usize)
     with(number, b"]")
 }
 
-/// The number of the row that was given last.
-fn row_number(world: &World, query: &Query, rows: &Rows<'_, Global>) -> u64 {
-    let mut number = with(0, b"row");
-    for (variable, entity) in query.variables().iter().zip(rows.entities()) {
-        number = with(with(with(number, b" $"), variable.as_slice()), b"=");
-        number = with_name(number, world, *entity);
-    }
+/// The same with all fields of that row.
+fn with_fields(number: u64, world: &World, rows: &Rows<'_, Global>) -> u64 {
+    let mut number = number;
     for place in 0..rows.field_count() {
         number = with_field(number, world, rows, place);
     }
     number
+}
+
+/// The same with a variable and its entity.
+fn with_binding(number: u64, world: &World, variable: &[u8], entity: u32) -> u64 {
+    let named = with(with(with(number, b" $"), variable), b"=");
+    with_name(named, world, entity)
+}
+
+/// The same with all variables of a query, and the entities of a row.
+fn with_bindings(number: u64, world: &World, query: &Query, entities: &[u32]) -> u64 {
+    let mut number = number;
+    let mut entities = entities;
+    for variable in query.variables() {
+        let [entity, others @ ..] = entities else {
+            break;
+        };
+        number = with_binding(number, world, variable.as_slice(), *entity);
+        entities = others;
+    }
+    number
+}
+
+/// The number of the row that was given last.
+fn row_number(world: &World, query: &Query, rows: &Rows<'_, Global>) -> u64 {
+    let number = with_bindings(with(0, b"row"), world, query, rows.entities());
+    with_fields(number, world, rows)
 }
 
 /// Takes the rows to come.
@@ -58,6 +80,18 @@ fn sum_rows(world: &World, query: &Query, rows: &mut Rows<'_, Global>) -> Sum {
     (1000, number)
 }
 
+/// The rows to come are those that are printed.
+fn expect_rows(
+    rt: &impl Abort,
+    world: &World,
+    query: &Query,
+    rows: &mut Rows<'_, Global>,
+    printed: Sum,
+) {
+    let sum = sum_rows(world, query, rows);
+    assert!(rt; sum == printed);
+}
+
 /// Asks a query for its rows, which are those that are printed, and gives it back.
 fn ask(
     rt: &impl Abort,
@@ -68,8 +102,7 @@ fn ask(
 ) -> Asked {
     assert!(rt; asked.is_current(view) && asked.covers(view));
     let mut rows = asked.rows(view);
-    let sum = sum_rows(view.world(), query, &mut rows);
-    assert!(rt; sum == printed);
+    expect_rows(rt, view.world(), query, &mut rows, printed);
     rows.into_asked()
 }
 
@@ -85,8 +118,7 @@ fn ask_kept(
     assert!(rt; asked.is_current(view) && asked.covers(view));
     let tables = tables_in(rt, alloc, view.world(), asked.query());
     let mut rows = asked.rows_in(view, tables.as_slice());
-    let sum = sum_rows(view.world(), query, &mut rows);
-    assert!(rt; sum == printed);
+    expect_rows(rt, view.world(), query, &mut rows, printed);
     rows.into_asked()
 }
 

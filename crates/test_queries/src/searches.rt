@@ -1,13 +1,13 @@
 //! The searches along relationships, through a world. Each asks first for what its search requires.
 ghost use Rattle.ecs_model.specs.Links.{IsAcyclic};
 ghost use Rattle.ecs_model.specs.World.{ids_of};
-ghost use Rattle.std.specs.Prelude.{IsTrue};
+ghost use Rattle.std.specs.Prelude.{◌≤◌, IsTrue};
 
-use component_index::Pattern;
 use ecs_id::Id;
 use ecs_model::built_ins::ACYCLIC;
 use ecs_world::World;
-use rel_travel::{Graph, Scratch, Unknown, above, first_up, pull, reaches};
+use id_pattern::Pattern;
+use rel_travel::{Graph, Holders, Scratch, Unknown, above, first_up, pull, reaches};
 
 /// Whether no chain of a relationship closes.
 fn has_no_cycle(world: &World, relationship: u32) -> bool
@@ -49,6 +49,21 @@ pub fn leads(
     reaches(&links, relationship, source, target, scratch)
 }
 
+/// The next five of a list that was begun, by index.
+fn next_five<G: Holders>(graph: &G, scratch: &mut Scratch) -> [Option<u32>; 5]
+    requires { G.size graph.now ≤ scratch.old.size }
+{
+    let mut given = [
+        pull(graph, scratch),
+        pull(graph, scratch),
+        pull(graph, scratch),
+        pull(graph, scratch),
+        pull(graph, scratch),
+    ];
+    given.sort_unstable();
+    given
+}
+
 /// The first five of those above, by index. There is room, and the entity is in the world.
 pub fn first_five(
     world: &World,
@@ -61,13 +76,5 @@ pub fn first_five(
         return [None; 5];
     }
     above(&links, index, relationship, scratch);
-    let mut given = [
-        pull(&links, scratch),
-        pull(&links, scratch),
-        pull(&links, scratch),
-        pull(&links, scratch),
-        pull(&links, scratch),
-    ];
-    given.sort_unstable();
-    given
+    next_five(&links, scratch)
 }

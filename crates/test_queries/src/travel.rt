@@ -2,10 +2,10 @@
 use crate::searches::{first_above, first_five, leads};
 use crate::worked::{Base, fill};
 use crate::worlds::{first_at, new_world};
-use component_index::{Part, Pattern};
 use ecs_model::built_ins::{CHILD_OF, IS_A};
 use ecs_model::faults::{CommandError, Refusal};
 use ecs_world::{Changes, World};
+use id_pattern::{Part, Pattern};
 use rel_travel::{Graph, Scratch};
 use std::alloc::{AllocError, Global};
 use std::process::Abort;
@@ -32,7 +32,7 @@ const D: u32 = 72;
 
 /// The Earth is a child of the Sun, and the Moon one of the Earth; the first two have a Position. B and C are A, and D
 /// is both.
-const WORLD: Base = Base {
+static WORLD: Base = Base {
     components: &["Position"],
     names: &["Planet", "Sun", "Earth", "Moon", "A", "B", "C", "D"],
     facts: &[

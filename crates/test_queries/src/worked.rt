@@ -139,7 +139,7 @@ const PLANETS_ROW: &str = "row $this=Earth \
 [Planet@Earth] [Planet@Earth] [Planet@Earth] [Planet@Earth] [Planet@Earth] [Planet@Earth] [Planet@Earth] \
 [Planet@Earth] [Planet@Earth] [Planet@Earth] [Planet@Earth]\nrows 1\n";
 
-const ROWS: [WorkedRow; 35] = [
+static ROWS: [WorkedRow; 35] = [
     WorkedRow {
         base: SKY,
         more: &[],

@@ -78,7 +78,7 @@ fn is_line_refused<'a>(
     heap.refuse_after(growth.blocks);
     let mut answer = carry_out(session, heap, line, &mut written);
     heap.refuse_none();
-    let refused = answer == Err(SessionError::Memory);
+    let refused = matches!(answer, Err(SessionError::Memory));
     if refused {
         assert!(rt; facts_number(session.world()) == before);
         written.clear();
@@ -106,8 +106,25 @@ fn print_refusing<'a>(
     Ok(refused)
 }
 
-/// Whether a line is refused with so few blocks, in a new session. The script prints what it prints where nothing is
-/// refused, and monitors are evaluated as often. Where the line makes a session, the new one may be refused.
+/// Whether a line is refused, in a new session. The script prints what it prints where nothing is refused, and monitors
+/// are evaluated as often.
+fn is_refused_in<'a>(
+    rt: &impl Abort,
+    heap: &'a Refusing<Global>,
+    growth: &Growth<'_>,
+    script: Lines<'_>,
+    session: &mut Session<&'a Refusing<Global>>,
+) -> Result<bool, AllocError> {
+    let mut out = Vec::new(heap);
+    let refused = print_refusing(rt, heap, growth, session, &mut out);
+    assert!(rt; session.compared() == script.compared);
+    expect_bytes(rt, out.as_slice(), script.printed);
+    drop(out);
+    refused
+}
+
+/// Whether a line is refused with so few blocks, in a new session. Where the line makes a session, the new one may be
+/// refused.
 fn is_refused(
     rt: &impl Abort,
     heap: &Refusing<Global>,
@@ -123,12 +140,8 @@ fn is_refused(
     let Ok(mut session) = made else {
         return Ok(true);
     };
-    let mut out = Vec::new(heap);
-    let refused = print_refusing(rt, heap, growth, &mut session, &mut out);
-    assert!(rt; session.compared() == script.compared);
+    let refused = is_refused_in(rt, heap, growth, script, &mut session);
     drop(session);
-    expect_bytes(rt, out.as_slice(), script.printed);
-    drop(out);
     refused
 }
 
@@ -246,7 +259,7 @@ fn scripts_outlast_refusals(rt: HostRuntime) -> Result<(), Fail> {
 #[test]
 fn no_command_is_carried_out_while_events_wait(rt: HostRuntime) -> Result<(), Fail> {
     let random = RandomState::new(&rt)?;
-    let script = WAITING_EVENTS;
+    let script = &WAITING_EVENTS;
     let mut printed = Vec::new(rt.alloc());
     let compared = print_script(rt.alloc(), random, script.base, script.lines, &mut printed)?;
     expect_output(&rt, printed.as_slice(), compared, script.output);

@@ -100,6 +100,49 @@ fn write_events<A: Allocator>(told: &[Event<A>], out: &mut Vec<u8, A>) -> Result
     Ok(())
 }
 
+/// The events that wait are delivered.
+fn deliver<A: Allocator + Copy>(session: &mut Session<A>, out: &mut Vec<u8, A>) -> Answer {
+    let told = session.events()?;
+    let written = write_events(told.as_slice(), out);
+    drop(told);
+    written?;
+    Ok(None)
+}
+
+fn make_component<A: Allocator + Copy>(
+    session: &mut Session<A>,
+    alloc: A,
+    name: &str,
+    fields: &[(&str, Kind)],
+) -> Answer {
+    match Schema::new(alloc, fields) {
+        Ok(schema) => session.component(name, schema),
+        Err(_) => Err(SessionError::Memory),
+    }
+}
+
+/// A fact comes, whose entity and tag are named.
+fn add_named<A: Allocator + Copy>(session: &mut Session<A>, entity: &str, tag: &str) -> Answer {
+    let entity = Reference::Name(entity);
+    let id = IdReference::Plain(Reference::Name(tag));
+    session.apply(Command::Add { entity, id })?;
+    Ok(None)
+}
+
+fn write_rows<A: Allocator + Copy>(
+    session: &mut Session<A>,
+    name: &str,
+    out: &mut Vec<u8, A>,
+) -> Answer {
+    session.write_kept_rows(name, out)?;
+    Ok(None)
+}
+
+fn sync<A: Allocator + Copy>(session: &mut Session<A>, name: &str) -> Answer {
+    session.sync_kept(name)?;
+    Ok(None)
+}
+
 /// Carries out a line. Rows and events are written after what was written.
 pub(crate) fn carry_out<A: Allocator + Copy>(
     session: &mut Session<A>,
@@ -109,50 +152,19 @@ pub(crate) fn carry_out<A: Allocator + Copy>(
 ) -> Answer {
     match line {
         Line::New => Ok(None),
-        Line::Component(name, fields) => {
-            let Ok(schema) = Schema::new(alloc, fields) else {
-                return Err(SessionError::Memory);
-            };
-            session.component(name, schema)
-        }
+        Line::Component(name, fields) => make_component(session, alloc, name, fields),
         Line::Entity(name) => session.entity(name),
         Line::Fresh => session.fresh(),
-        Line::Add(entity, named) => {
-            let id = id_of(named)?;
-            session.add(first_at(entity), id)
-        }
-        Line::Set(entity, named, values) => {
-            let id = id_of(named)?;
-            session.set(first_at(entity), id, values)
-        }
-        Line::Remove(entity, named) => {
-            let id = id_of(named)?;
-            session.remove(first_at(entity), id)
-        }
+        Line::Add(entity, named) => session.add(first_at(entity), id_of(named)?),
+        Line::Set(entity, named, values) => session.set(first_at(entity), id_of(named)?, values),
+        Line::Remove(entity, named) => session.remove(first_at(entity), id_of(named)?),
         Line::Delete(entity) => session.delete(first_at(entity)),
         Line::Store(kind, name, text) => session.store(kind, name, text),
         Line::Drop(name) => session.drop_stored(name),
-        Line::Rows(name) => {
-            session.write_kept_rows(name, out)?;
-            Ok(None)
-        }
-        Line::AddNamed(entity, tag) => {
-            let entity = Reference::Name(entity);
-            let id = IdReference::Plain(Reference::Name(tag));
-            session.apply(Command::Add { entity, id })?;
-            Ok(None)
-        }
-        Line::Sync(name) => {
-            session.sync_kept(name)?;
-            Ok(None)
-        }
-        Line::Events => {
-            let told = session.events()?;
-            let written = write_events(told.as_slice(), out);
-            drop(told);
-            written?;
-            Ok(None)
-        }
+        Line::Rows(name) => write_rows(session, name, out),
+        Line::AddNamed(entity, tag) => add_named(session, entity, tag),
+        Line::Sync(name) => sync(session, name),
+        Line::Events => deliver(session, out),
     }
 }
 

@@ -4,7 +4,7 @@
 ghost use Rattle.ecs_observe.specs.Following.{IsUpToDateAt};
 
 use crate::lines::{Line, Named, new_session, print_lines};
-use crate::scripts::{EARTH, HOT, KEPT_QUERY, MOON, PLANET, POSITION};
+use crate::scripts::{EARTH, HOT, MOON, PLANET, POSITION, SYSTEM_LINES};
 use ecs_id::Id;
 use ecs_model::faults::SessionRefusal;
 use ecs_model::watches::StoredKind;
@@ -15,16 +15,16 @@ use std::test::Fail;
 use world_rows::{Asked, Rows, WorldView};
 
 /// Two kept queries, of which one is asked for its rows.
-const STORED: [Line; 3] = [
+static STORED: [Line; 3] = [
     Line::Store(StoredKind::Kept, "k", "Position, Planet"),
     Line::Store(StoredKind::Kept, "other", "Position, Planet"),
     Line::Store(StoredKind::Monitor, "m", "Position"),
 ];
 
-const ROWS: [Line; 1] = [Line::Rows("k")];
+static ROWS: [Line; 1] = [Line::Rows("k")];
 
 /// The earth moves to a new table.
-const HEATED: [Line; 4] = [
+static HEATED: [Line; 4] = [
     Line::Entity("Hot"),
     Line::Events,
     Line::Add(EARTH, Named::Plain(HOT)),
@@ -32,7 +32,7 @@ const HEATED: [Line; 4] = [
 ];
 
 /// And the moon becomes a planet with a position.
-const SETTLED: [Line; 4] = [
+static SETTLED: [Line; 4] = [
     Line::Set(MOON, Named::Plain(POSITION), &[4, 4]),
     Line::Events,
     Line::Add(MOON, Named::Plain(PLANET)),
@@ -63,27 +63,48 @@ fn expect_column(rt: &impl Abort, alloc: Global, session: &mut Session) -> Resul
     Ok(())
 }
 
-/// A `rows` line judges the tables that came, and none where none came; a list that isn't asked for judges none.
-fn expect_judged(rt: &impl Abort, alloc: Global, session: &mut Session) -> Result<(), Fail> {
-    run(alloc, session, KEPT_QUERY.base)?;
-    run(alloc, session, &STORED[..2])?;
-    assert!(rt; judged(rt, session, "k") == 0);
+/// So many tables were judged for a list.
+fn expect_count(rt: &impl Abort, session: &Session, name: &str, count: u64) {
+    assert!(rt; judged(rt, session, name) == count);
+}
+
+/// A `rows` line judges the tables that came, and none where none came. How many these were.
+fn first_judged(rt: &impl Abort, alloc: Global, session: &mut Session) -> Result<u64, Fail> {
+    expect_count(rt, session, "k", 0);
     run(alloc, session, &ROWS)?;
     let first = judged(rt, session, "k");
     assert!(rt; first > 0);
     expect_column(rt, alloc, session)?;
     run(alloc, session, &ROWS)?;
-    assert!(rt; judged(rt, session, "k") == first);
+    expect_count(rt, session, "k", first);
+    Ok(first)
+}
+
+/// One more is judged after the earth has moved; a list that isn't asked for judges none before it is brought up to
+/// date.
+fn expect_one_more(
+    rt: &impl Abort,
+    alloc: Global,
+    session: &mut Session,
+    first: u64,
+) -> Result<(), Fail> {
+    let second = first.saturating_add(1);
     run(alloc, session, &HEATED)?;
     run(alloc, session, &ROWS)?;
-    let second = first.saturating_add(1);
-    assert!(rt; judged(rt, session, "k") == second);
+    expect_count(rt, session, "k", second);
     session.sync_kept("k")?;
-    assert!(rt; judged(rt, session, "k") == second);
-    assert!(rt; judged(rt, session, "other") == 0);
+    expect_count(rt, session, "k", second);
+    expect_count(rt, session, "other", 0);
     session.sync_kept("other")?;
-    assert!(rt; judged(rt, session, "other") == second);
+    expect_count(rt, session, "other", second);
     Ok(())
+}
+
+fn expect_judged(rt: &impl Abort, alloc: Global, session: &mut Session) -> Result<(), Fail> {
+    run(alloc, session, &SYSTEM_LINES)?;
+    run(alloc, session, &STORED[..2])?;
+    let first = first_judged(rt, alloc, session)?;
+    expect_one_more(rt, alloc, session, first)
 }
 
 #[test]
@@ -122,12 +143,12 @@ fn listed_rows(
 ) -> Result<(), Fail>
     requires { IsUpToDateAt session.now name.now }
 {
-    let mut tables = Vec::new(alloc);
-    session.kept_tables(name, &mut tables)?;
     let kept = session.kept_query(name)?;
     let query = kept.try_clone(alloc)?;
     let view = WorldView::new(session.world());
     let asked = Asked::of(alloc, &view, query)?;
+    let mut tables = Vec::new(alloc);
+    session.kept_tables(name, &mut tables)?;
     let mut rows = asked.rows_in(&view, tables.as_slice());
     let taken = take_entities(&mut rows, found);
     drop(rows.into_asked());
@@ -164,7 +185,7 @@ fn expect_probes(rt: &impl Abort, alloc: Global, session: &mut Session) -> Resul
 
 /// The list of a kept query, as it is given, leads to the rows of the query, through changes.
 fn expect_listed(rt: &impl Abort, alloc: Global, session: &mut Session) -> Result<(), Fail> {
-    run(alloc, session, KEPT_QUERY.base)?;
+    run(alloc, session, &SYSTEM_LINES)?;
     run(alloc, session, &STORED)?;
     expect_no_list(rt, alloc, session);
     expect_rows(rt, alloc, session, &[EARTH])?;

@@ -36,7 +36,7 @@ const AGAIN: EntityId = EntityId {
 };
 
 /// Facts with a name of no entity, or a dead handle: where a fact has both, Dead is answered.
-const REFUSED: [(Reference, IdReference, Refusal); 4] = [
+static REFUSED: [(Reference, IdReference, Refusal); 4] = [
     (NOBODY, POSITION, Refusal::UnknownName),
     (SUN, IdReference::Plain(NOBODY), Refusal::UnknownName),
     (FIRST, POSITION, Refusal::Dead),

@@ -57,6 +57,9 @@ const SYSTEM: [Line; 11] = [
     Line::Add(EARTH, Named::Plain(PLANET)),
 ];
 
+/// The same lines, for tests that are no scripts.
+pub(crate) static SYSTEM_LINES: [Line; 11] = SYSTEM;
+
 /// What the others stand on, by itself.
 const SYSTEM_ALONE: Script = Script {
     base: &[],
@@ -65,7 +68,7 @@ const SYSTEM_ALONE: Script = Script {
 };
 
 /// The worked script kept-query-through-changes.
-pub(crate) const KEPT_QUERY: Script = Script {
+const KEPT_QUERY: Script = Script {
     base: &SYSTEM,
     lines: &[
         Line::Store(StoredKind::Kept, "k", "Position, Planet"),
@@ -187,7 +190,7 @@ const NEW_ENTITY: Script = Script {
 
 /// No command is carried out while events wait, and rows are asked of kept queries alone. Here events are delivered
 /// where a line says so.
-pub(crate) const WAITING_EVENTS: Script = Script {
+pub(crate) static WAITING_EVENTS: Script = Script {
     base: &SYSTEM,
     lines: &[
         Line::Store(StoredKind::Monitor, "m", "Planet"),
@@ -425,7 +428,7 @@ const REPLACED_PAIR: Script = Script {
 };
 
 /// All scripts in which memory is refused.
-pub(crate) const SCRIPTS: [Script; 16] = [
+pub(crate) static SCRIPTS: [Script; 16] = [
     SYSTEM_ALONE,
     MARRIAGES,
     DELETED_PARENTS,

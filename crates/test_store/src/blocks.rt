@@ -34,50 +34,6 @@ fn the_last_row_fills_the_gap(rt: HostRuntime) -> Result<(), Fail> {
     Ok(done?)
 }
 
-fn fill_gap_of_element(rt: &impl Abort, column: &mut Block) -> Result<(), Memory>
-    requires { column.old ≡ empty_contents (4 ∷ []) }
-{
-    column.reserve(2)?;
-    column.push_zero();
-    column.push_zero();
-    column.set(0, 0, &[1, 2, 3, 4]);
-    column.set(0, 1, &[5, 6, 7, 8]);
-    column.swap_remove(0);
-    assert!(rt; column.len() == 1);
-    assert!(rt; column.get(0, 0) == [5u8, 6, 7, 8].as_slice());
-    Ok(())
-}
-
-#[test]
-fn the_last_element_fills_the_gap(rt: HostRuntime) -> Result<(), Fail> {
-    let mut column = Block::new(rt.alloc(), &[4])?;
-    let done = fill_gap_of_element(&rt, &mut column);
-    drop(column);
-    Ok(done?)
-}
-
-fn write_columns(rt: &impl Abort, block: &mut Block) -> Result<(), Memory>
-    requires { block.old ≡ empty_contents (2 ∷ 1 ∷ []) }
-{
-    block.reserve(2)?;
-    block.push_zero();
-    block.push_zero();
-    block.set_column(0, &[1, 2, 3, 4]);
-    block.set_column(1, &[8, 9]);
-    assert!(rt; block.get(0, 0) == [1u8, 2].as_slice());
-    assert!(rt; block.get(0, 1) == [3u8, 4].as_slice());
-    assert!(rt; block.get(1, 1) == [9u8].as_slice());
-    Ok(())
-}
-
-#[test]
-fn a_column_is_written_at_once(rt: HostRuntime) -> Result<(), Fail> {
-    let mut block = Block::new(rt.alloc(), &[2, 1])?;
-    let done = write_columns(&rt, &mut block);
-    drop(block);
-    Ok(done?)
-}
-
 fn push_one_by_one(rt: &impl Abort, block: &mut Block<&Refusing<Global>>) -> Result<(), Memory> {
     for _ in 0..5_000 {
         block.reserve(1)?;

@@ -4,9 +4,9 @@ ghost use Rattle.ecs_id.specs.Id.{second_of};
 ghost use Rattle.ecs_model.specs.Links.{IsAcyclic};
 ghost use Rattle.test_store.specs.Closed.{FallBelow, MentionsInside, live_in, row_at, rows_in};
 
-use component_index::Pattern;
 use ecs_id::{Id, LAST_INDEX};
 use ecs_model::built_ins::CHILD_OF;
+use id_pattern::Pattern;
 use rel_travel::{Graph, Scratch, Unknown, first_up, would_cycle};
 use std::alloc::{AllocError, Global};
 use std::marker::Model;

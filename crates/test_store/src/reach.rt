@@ -1,8 +1,8 @@
 //! Searches along a relationship.
 use crate::list_graph::{ListGraph, closes, empty_rows, first_parent, give};
-use component_index::{Part, Pattern};
 use ecs_id::Id;
 use ecs_model::built_ins::CHILD_OF;
+use id_pattern::{Part, Pattern};
 use rel_travel::{Graph, Scratch};
 use std::alloc::{AllocError, Global};
 use std::process::Abort;
