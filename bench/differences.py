@@ -175,6 +175,10 @@ def two_before(number):
     return range(max(number - 2, 0), number)
 
 
+def the_first(number):
+    return range(min(number, 1))
+
+
 def layer_before(number):
     begun = number - number % LAYER
     return range(max(begun - LAYER, 0), begun)
@@ -189,6 +193,7 @@ ALONG = {
     "ladder_depths": (two_before, "In", "T(cascade In)"),
     "layers_depths": (layer_before, "In", "T(cascade In)"),
     "ladder_top": (two_before, "In", "Q($this|up In,X)"),
+    "base_targets": (the_first, "IsA", "[none] Q($this|up IsA,$x)"),
 }
 LENGTHS = [500, 1_000, 2_000]
 

@@ -52,6 +52,38 @@ fn sum_once(view: &WorldView<'_, Global>, asked: Asked, values: bool) -> (Asked,
     (rows.into_asked(), sum)
 }
 
+/// Begins the rows of a query, and gives it back with the first entity of the first row.
+fn first_once(view: &WorldView<'_, Global>, asked: Asked) -> (Asked, u64) {
+    if !asked.is_current(view) || !asked.covers(view) {
+        return (asked, 0);
+    }
+    let mut rows = asked.rows(view);
+    let mut first = 0;
+    if rows.next() {
+        first = number_of(&rows, false);
+    }
+    (rows.into_asked(), first)
+}
+
+/// A sum over the first row of the query that a text asks, begun so often.
+pub(crate) fn sum_of_first(
+    alloc: Global,
+    world: &World,
+    text: &str,
+    times: u32,
+) -> Result<u64, QueryFault> {
+    let view = WorldView::new(world);
+    let mut asked = Asked::new(alloc, &view, text)?;
+    let mut sum = 0u64;
+    for _ in 0..times {
+        let (again, first) = first_once(&view, asked);
+        asked = again;
+        sum = sum.wrapping_add(first);
+    }
+    drop(asked);
+    Ok(sum)
+}
+
 /// A sum over all rows of the query that a text asks, so often: of their entities or their values. The room for them is
 /// made once.
 pub(crate) fn sum_by_rows(

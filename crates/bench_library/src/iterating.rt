@@ -1,7 +1,7 @@
 //! Entities in twenty tables, gone through by chunks and by rows, with a value written or without, and as many in plain
 //! slices.
 
-use crate::by_rows::sum_by_rows;
+use crate::by_rows::{sum_by_rows, sum_of_first};
 use crate::commands::{Fault, add, fresh, set};
 use crate::is_asked;
 use crate::values::{component, tag};
@@ -25,12 +25,18 @@ pub(crate) const PLANE: usize = 8;
 /// What is asked for.
 const TEXT: &str = "Position, Velocity";
 
+/// The same, found by a run of a plan.
+const SEARCHED: &str = "Position, Velocity, !A(up)";
+
 /// The workloads.
-static NAMES: [&str; 8] = [
+static NAMES: [&str; 11] = [
     "ids",
     "values",
     "row_ids",
     "row_values",
+    "starts",
+    "row_starts",
+    "search_starts",
     "written",
     "plain_ids",
     "plain_values",
@@ -151,6 +157,20 @@ fn sum_by_chunks(world: &World, query: &Query, values: bool) -> u64 {
     sum
 }
 
+/// How many entities the first chunk of a query has.
+fn first_by_chunks(world: &World, query: &Query) -> u64 {
+    if !has_chunks(query) {
+        return 0;
+    }
+    let mut chunks = Chunks::start(world, query);
+    let first = match chunks.next_chunk() {
+        Some(chunk) => chunk.entities().len() as u64,
+        None => 0,
+    };
+    drop(chunks);
+    first
+}
+
 /// As many entities and values in three slices.
 #[derive(Drop)]
 struct Plain {
@@ -224,7 +244,23 @@ fn sum_of_chunks(alloc: Global, world: &World, values: bool, times: u32) -> Resu
     Ok(sum)
 }
 
+/// Begins so often to go over the chunks of a world.
+fn sum_of_starts(alloc: Global, world: &World, times: u32) -> Result<u64, Fault> {
+    let query = read_query(alloc, world, TEXT).or(Err(Fault::World))?;
+    let mut sum = 0u64;
+    for _ in 0..times {
+        sum = sum.wrapping_add(first_by_chunks(world, &query));
+    }
+    drop(query);
+    Ok(sum)
+}
+
 /// The same by rows.
+fn sum_of_row_starts(alloc: Global, world: &World, text: &str, times: u32) -> Result<u64, Fault> {
+    sum_of_first(alloc, world, text, times).or(Err(Fault::World))
+}
+
+/// The entities by rows.
 fn sum_of_rows(alloc: Global, world: &World, values: bool, times: u32) -> Result<u64, Fault> {
     sum_by_rows(alloc, world, TEXT, values, times).or(Err(Fault::World))
 }
@@ -270,6 +306,9 @@ fn sum_of_world(
     let position = fill(alloc, world, count)?;
     match name {
         "written" => sum_of_written(alloc, world, position, times),
+        "starts" => sum_of_starts(alloc, world, times),
+        "row_starts" => sum_of_row_starts(alloc, world, TEXT, times),
+        "search_starts" => sum_of_row_starts(alloc, world, SEARCHED, times),
         "row_ids" => sum_of_rows(alloc, world, false, times),
         "row_values" => sum_of_rows(alloc, world, true, times),
         _ => sum_of_chunks(alloc, world, name == "values", times),
