@@ -17,7 +17,10 @@ use Rattle.ecs_schema.proofs.NumberPlaces.{size_of-first}
 use Rattle.ecs_archetypes.specs.Holdings.{Cells}
 use Rattle.ecs_world.specs.State.{AreFactsOf, byte_count, value_in}
 use Rattle.ecs_world.proofs.BaseCopies.{some_width}
+use Rattle.ecs_print.specs.Stops.{StopsWithin}
 use Rattle.ecs_print.specs.Values.{ended_text, held_text}
+use Rattle.ecs_print.proofs.Pieces.{stops_in_item}
+use Rattle.ecs_print.proofs.Stops.{stops_behind, stops_sooner}
 
 -- a fact is printed by the bytes of its value
 fact_by_bytes : (w : WorldState) (e : ℕ) (cells : Cells) (i : Id) (bytes : List ℕ) → AreFactsOf w e cells → value_at id_cmp cells i ≡ Some bytes → codes " [" ++ held_text w i bytes ≡ fact_text w e i ++ codes " ["
@@ -48,6 +51,18 @@ fact_more w e cells k i bytes start old new are here at before now =
     (ap (λ x. take k ids ++ x ∷ []) (sym (get_or_from_slice_get ids k i i listed)) ∙ sym (take-suc ids k i (slice_get_within ids k i listed)) ∙ ap (λ n. take n ids) (sym (add-one k))) in
     now ∙ ap (λ t. t ++ held_text w i bytes) before ∙ append_assoc (start ++ done) (codes " [") (held_text w i bytes)
     ∙ ap (λ t. start ++ done ++ t) (fact_by_bytes w e cells i bytes are at) ∙ sym (append_assoc (start ++ done) (text i) (codes " [")) ∙ ap (λ t. t ++ codes " [") more
+
+-- one that stops in the midst of its id
+pub fact_stops : (w : WorldState) (e : ℕ) (cells : Cells) (k : ℕ) (i : Id) (bytes start mid now : List ℕ) → AreFactsOf w e cells → slice_get cells k ≡ Some (pair_of i bytes)
+    → mid ≡ start ++ flat_map (fact_text w e) (take k (ids_of w e)) ++ codes " [" → StopsWithin mid now (id_text w i) → StopsWithin start now (flat_map (fact_text w e) (ids_of w e))
+fact_stops w e cells k i bytes start mid now are here before stops =
+    let ids = ids_of w e in
+    let done = start ++ flat_map (fact_text w e) (take k ids) in
+    let value = value_text (value_of w e i) in
+    let listed : slice_get ids k ≡ Some i = ap (λ z. slice_get z k) (sym are.ids) ∙ key_at cells k i bytes here in
+    let begun : StopsWithin done now (codes " [" ++ id_text w i) = stops_behind done (codes " [") mid now (id_text w i) before stops in
+    let whole : StopsWithin done now (fact_text w e i) = stops_sooner done now (codes " [" ++ id_text w i ++ value) (codes "]") (stops_sooner done now (codes " [" ++ id_text w i) value begun) in
+    stops_in_item (fact_text w e) ids k i start done now (slice_get_within ids k i listed) listed refl whole
 
 -- the fields of a type are no fault
 sound_at : (w : WorldState) → IsWellFormed w → (c : ℕ) → IfSome (value_at nat_cmp w.schemas c) (λ fs. schema_fault fs ≡ None)

@@ -18,6 +18,10 @@ stops_before before text = record { more = []; rest = text; holds = sym (append-
 pub stops_same : {X : Type 0} (before after text : List X) → after ≡ before → StopsWithin before after text
 stops_same before after text same = subst (λ xs. StopsWithin before xs text) (sym same) (stops_before before text)
 
+-- after what was written of it
+pub stops_one : {X : Type 0} (before after a rest : List X) → after ≡ before ++ a → StopsWithin before after (a ++ rest)
+stops_one before after a rest is = record { more = a; rest = rest; holds = is; front = refl }
+
 -- after a piece that was written
 pub stops_behind : {X : Type 0} (before piece mid after text : List X) → mid ≡ before ++ piece → StopsWithin mid after text → StopsWithin before after (piece ++ text)
 stops_behind before piece mid after text is so = record {

@@ -1,14 +1,15 @@
 //! Numbers in decimal.
-ghost use Rattle.std.specs.Prelude.{◌≡◌, ◌+◌, ◌^◌, ◌<◌, ◌≤◌, ◌∷◌, ◌++◌, OnOk, decimal, drop, length, unsigned_abs};
+ghost use Rattle.std.specs.Prelude.{◌≡◌, ◌+◌, ◌^◌, ◌<◌, ◌≤◌, ◌∷◌, ◌++◌, OnErr, OnOk, decimal, drop, length, unsigned_abs};
 ghost use Rattle.std.specs.Fmt.{signed_decimal};
 ghost use Rattle.ecs_print.specs.Values.{behind_comma};
 
 use itoa::{Buffer, write_digits};
 use std::alloc::{AllocError, Allocator};
 
-/// Writes a whole number in decimal.
+/// Writes a whole number in decimal. Where memory is refused, nothing is written.
 pub fn write_number<A: Allocator>(number: usize, out: &mut Vec<u8, A>) -> Result<(), AllocError>
-    ensures { OnOk result (out.new.items ≡ out.old.items ++ decimal number) }
+    ensures written { OnOk result (out.new.items ≡ out.old.items ++ decimal number) }
+    ensures refused { OnErr result (out.new.items ≡ out.old.items) }
 {
     let mut buffer = Buffer::new();
     out.extend_from_slice(buffer.format(number).as_bytes())

@@ -1,10 +1,11 @@
 //! The values of facts.
-ghost use Rattle.std.specs.Prelude.{◌≡◌, ◌≤◌, ◌++◌, IsTrue, OnOk, Some, codes, drop, flat_map, length};
+ghost use Rattle.std.specs.Prelude.{◌≡◌, ◌≤◌, ◌++◌, IsTrue, OnErr, OnOk, Some, codes, drop, flat_map, length};
 ghost use Rattle.ecs_model.specs.Bytes.{size_of, values_in};
 ghost use Rattle.ecs_model.specs.Output.{fact_text};
-ghost use Rattle.ecs_model.specs.Print.{value_text};
+ghost use Rattle.ecs_model.specs.Print.{id_text, value_text};
 ghost use Rattle.ecs_model.specs.World.{ids_of, is_alive, type_of_id, value_of};
 ghost use Rattle.ecs_world.specs.State.{byte_count, value_in};
+ghost use Rattle.ecs_print.specs.Stops.{StopsWithin};
 ghost use Rattle.ecs_print.specs.Values.{ended_text, held_text};
 
 use crate::digits::write_next;
@@ -19,15 +20,17 @@ use std::alloc::{AllocError, Allocator};
 /// before it.
 pub const MOST_TEXT: usize = 176;
 
-/// Writes the facts of a live entity, in the order of ids.
+/// Writes the facts of a live entity, in the order of ids. Where memory is refused, a prefix of them may be written.
 pub fn write_facts<A: Allocator>(
     world: &World<A>,
     entity: EntityId,
     out: &mut Vec<u8, A>,
 ) -> Result<(), AllocError>
     requires { IsTrue (is_alive world.now.state entity) }
-    ensures { OnOk result (out.new.items ≡ out.old.items ++ flat_map (fact_text world.now.state entity.index)
+    ensures written { OnOk result (out.new.items ≡ out.old.items ++ flat_map (fact_text world.now.state entity.index)
         (ids_of world.now.state entity.index)) }
+    ensures front { OnErr result (StopsWithin out.old.items out.new.items
+        (flat_map (fact_text world.now.state entity.index) (ids_of world.now.state entity.index))) }
 {
     let facts = world.facts(entity).unwrap();
     out.extend_from_slice(b" [")?;
@@ -40,14 +43,16 @@ pub fn write_facts<A: Allocator>(
     Ok(())
 }
 
-/// Writes a fact of an entity, by its index: ` [ID=v,v]`, or ` [ID]` without a value.
+/// Writes a fact of an entity, by its index: ` [ID=v,v]`, or ` [ID]` without a value. Where memory is refused, a prefix
+/// of it may be written.
 pub fn write_fact<A: Allocator>(
     world: &World<A>,
     entity: u32,
     id: Id,
     out: &mut Vec<u8, A>,
 ) -> Result<(), AllocError>
-    ensures { OnOk result (out.new.items ≡ out.old.items ++ fact_text world.now.state entity id) }
+    ensures written { OnOk result (out.new.items ≡ out.old.items ++ fact_text world.now.state entity id) }
+    ensures front { OnErr result (StopsWithin out.old.items out.new.items (fact_text world.now.state entity id)) }
 {
     out.extend_from_slice(b" [")?;
     write_id(world, id, out)?;
@@ -55,14 +60,16 @@ pub fn write_fact<A: Allocator>(
     out.extend_from_slice(b"]")
 }
 
-/// Writes the value of a fact: `=` and its numbers with commas between, or nothing where it has no numbers.
+/// Writes the value of a fact: `=` and its numbers with commas between, or nothing where it has no numbers. Where memory
+/// is refused, nothing is written.
 pub fn write_value<A: Allocator>(
     world: &World<A>,
     entity: u32,
     id: Id,
     out: &mut Vec<u8, A>,
 ) -> Result<(), AllocError>
-    ensures { OnOk result (out.new.items ≡ out.old.items ++ value_text (value_of world.now.state entity id)) }
+    ensures written { OnOk result (out.new.items ≡ out.old.items ++ value_text (value_of world.now.state entity id)) }
+    ensures refused { OnErr result (out.new.items ≡ out.old.items) }
 {
     world.keeps();
     let Some(schema) = world.type_of(id) else {
@@ -74,7 +81,8 @@ pub fn write_value<A: Allocator>(
     }
 }
 
-/// Writes an id, the value that its bytes mean, and the separator of facts.
+/// Writes an id, the value that its bytes mean, and the separator of facts. Where memory is refused, a prefix of the id
+/// may be written.
 #[inline(always)]
 fn write_held<A: Allocator>(
     world: &World<A>,
@@ -83,7 +91,8 @@ fn write_held<A: Allocator>(
     out: &mut Vec<u8, A>,
 ) -> Result<(), AllocError>
     requires { length bytes.now ≡ byte_count (type_of_id world.now.state id) }
-    ensures { OnOk result (out.new.items ≡ out.old.items ++ held_text world.now.state id bytes.now) }
+    ensures written { OnOk result (out.new.items ≡ out.old.items ++ held_text world.now.state id bytes.now) }
+    ensures front { OnErr result (StopsWithin out.old.items out.new.items (id_text world.now.state id)) }
 {
     write_id(world, id, out)?;
     write_bytes(world, id, bytes, out)
@@ -99,7 +108,8 @@ fn write_bytes<A: Allocator>(
     out: &mut Vec<u8, A>,
 ) -> Result<(), AllocError>
     requires { length bytes.now ≡ byte_count (type_of_id world.now.state id) }
-    ensures { OnOk result (out.new.items ≡ out.old.items ++ ended_text world.now.state id bytes.now) }
+    ensures written { OnOk result (out.new.items ≡ out.old.items ++ ended_text world.now.state id bytes.now) }
+    ensures refused { OnErr result (out.new.items ≡ out.old.items) }
 {
     world.keeps();
     if bytes.is_empty() {
@@ -119,8 +129,9 @@ fn write_ended<A: Allocator>(
     out: &mut Vec<u8, A>,
 ) -> Result<(), AllocError>
     requires { length bytes.now ≡ size_of schema.now }
-    ensures { OnOk result (out.new.items ≡ out.old.items ++ value_text (Some (values_in schema.now bytes.now))
+    ensures written { OnOk result (out.new.items ≡ out.old.items ++ value_text (Some (values_in schema.now bytes.now))
         ++ codes "] [") }
+    ensures refused { OnErr result (out.new.items ≡ out.old.items) }
 {
     let mut text = [b'['; MOST_TEXT + 3];
     text[MOST_TEXT + 1] = b' ';
@@ -136,7 +147,8 @@ fn write_fields<A: Allocator>(
     out: &mut Vec<u8, A>,
 ) -> Result<(), AllocError>
     requires { length bytes.now ≡ size_of schema.now }
-    ensures { OnOk result (out.new.items ≡ out.old.items ++ value_text (Some (values_in schema.now bytes.now))) }
+    ensures written { OnOk result (out.new.items ≡ out.old.items ++ value_text (Some (values_in schema.now bytes.now))) }
+    ensures refused { OnErr result (out.new.items ≡ out.old.items) }
 {
     let mut text = [0; MOST_TEXT];
     let start = put_fields(schema, bytes, &mut text);

@@ -1,4 +1,4 @@
-use Rattle.std.proofs.Common.{◌+◌, ◌≤◌, arith}
+use Rattle.std.proofs.Common.{arith}
 use Rattle.ecs_print.proofs.Fields.{digits_fit}
 use Rattle.ecs_print.proofs.digits.write_whole.Goals as goal
 
