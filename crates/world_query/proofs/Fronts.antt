@@ -1,22 +1,11 @@
 -- A text that stops in the midst of the piece of an item.
-use Rattle.std.proofs.Common.{◌≡◌, ℕ, ◌+◌, ◌<◌, ◌≤◌, Bool, true, false, List, [], ◌++◌, length, take, drop, refl, sym, ap, ◌∙◌, subst, append_assoc, append-nil}
+use Rattle.std.proofs.Common.{◌≡◌, ℕ, ◌+◌, ◌<◌, ◌≤◌, Bool, true, false, List, [], ◌++◌, length, take, refl, sym, ap, ◌∙◌, subst, append_assoc, append-nil}
 use Rattle.std.specs.Prelude.{Some, codes, flat_map, slice_get}
-use Rattle.std.proofs.lemmas.Grind.{flat_map-append}
-use Rattle.std.proofs.lemmas.List.{take-append-drop}
 use Rattle.ecs_print.specs.Stops.{StopsWithin}
+use Rattle.ecs_print.proofs.Pieces.{stops_in_item}
 use Rattle.ecs_print.proofs.Stops.{stops_behind, stops_sooner}
 use Rattle.world_query.specs.Lines.{line_end}
-use Rattle.world_query.proofs.PrintedLists.{line_ended, one_more}
-
-pub stops_in_item : {X : Type 0} (f : X → List ℕ) (xs : List X) (i : ℕ) (x : X) (start mid now : List ℕ) → i < length xs → slice_get xs i ≡ Some x → mid ≡ start ++ flat_map f (take i xs) → StopsWithin mid now (f x)
-    → StopsWithin start now (flat_map f xs)
-stops_in_item f xs i x start mid now within here before stops =
-    let done = flat_map f (take i xs) in
-    let rest = flat_map f (drop (i + 1) xs) in
-    let this : done ++ f x ≡ flat_map f (take (i + 1) xs) = one_more f xs i x [] done (done ++ f x) within here refl refl in
-    let all : (done ++ f x) ++ rest ≡ flat_map f xs
-    = ap (λ t. t ++ rest) this ∙ sym (flat_map-append f (take (i + 1) xs) (drop (i + 1) xs)) ∙ ap (flat_map f) (take-append-drop (i + 1) xs) in
-    subst (StopsWithin start now) all (stops_sooner start now (done ++ f x) rest (stops_behind start done mid now (f x) before stops))
+use Rattle.world_query.proofs.PrintedLists.{line_ended}
 
 -- the last item ends the line
 pub stops_in_line : {X : Type 0} (f : X → List ℕ) (xs : List X) (i : ℕ) (x : X) (last : Bool) (start mid now : List ℕ) → i < length xs → slice_get xs i ≡ Some x → mid ≡ start ++ flat_map f (take i xs)

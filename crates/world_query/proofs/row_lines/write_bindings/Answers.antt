@@ -9,8 +9,8 @@ use Rattle.ecs_print.proofs.Stops.{on_err_anyway}
 use Rattle.ecs_model.specs.World.{WorldState}
 use Rattle.world_query.specs.declared.labels.PaddedText.{PaddedText}
 use Rattle.world_query.specs.Lines.{started, starts_in, text_of}
-use Rattle.world_query.proofs.PrintedLists.{both_at, one_more}
-use Rattle.world_query.proofs.Fronts.{stops_in_item}
+use Rattle.ecs_print.proofs.Pieces.{one_more, stops_in_item}
+use Rattle.world_query.proofs.PrintedLists.{both_at}
 use Rattle.world_query.proofs.row_lines.write_bindings.Goals as goal
 
 pub loop-place-preserved : goal.loop-place-preserved
