@@ -1,5 +1,7 @@
 -- What is taken in from the tables above a serial.
-use Rattle.std.proofs.Common.{◌≡◌, inl, inr, ℕ, zero, suc, ◌+◌, ◌<◌, ◌≤◌, Bool, true, false, append-nil, append_assoc, cond, le-leb, List, [], ◌∷◌, ◌++◌, Ok, Err, OnErr, OnOk, Result, is_err, length, map, max, min, nat_le, slice_index_or, refl, sym, ap, subst, ◌∙◌, arith, true≢false}
+use Rattle.std.proofs.Math.Seq.{take-append_seam}
+use Rattle.std.proofs.lemmas.List.{take-append-drop}
+use Rattle.std.proofs.Common.{◌≡◌, drop, take, inl, inr, ℕ, zero, suc, ◌+◌, ◌<◌, ◌≤◌, Bool, true, false, append-nil, append_assoc, cond, le-leb, List, [], ◌∷◌, ◌++◌, Ok, Err, OnErr, OnOk, Result, is_err, length, map, max, min, nat_le, slice_index_or, refl, sym, ap, subst, ◌∙◌, arith, true≢false}
 use Rattle.std.specs.List.{AllByRecursion, Contains, filter}
 use Rattle.std.proofs.lemmas.Bool.Decides.{nat_tests}
 use Rattle.std.proofs.lemmas.List.Elements.{Contains-append_cases, Contains-get_or, filter-append, recursion_from_All}
@@ -89,6 +91,17 @@ later_one last taken x before above k c =
     only : (x k : TableKey) → Contains (x ∷ []) k → last < x.serial → last < k.serial
     only x k (zero, lt, same) above = subst (λ y. last < y.serial) same above
     only x k (suc n, lt, same) above = absurd (omega (arith, lt))
+
+pub on_err_anyway : {T E P : Type 0} (r : Result T E) → P → OnErr r P
+on_err_anyway (Ok x) p = tt
+on_err_anyway (Err e) p = p
+
+-- what comes first of a list comes first of what this begins
+pub front_of_front : {X : Type 0} (old more mid new : List X) → mid ≡ old ++ more → take (length mid) new ≡ mid → take (length old) new ≡ old
+front_of_front old more mid new is front =
+    let rest = drop (length mid) new in
+    let all : new ≡ old ++ (more ++ rest) = sym (take-append-drop (length mid) new) ∙ ap (λ t. t ++ rest) (front ∙ is) ∙ append_assoc old more rest in
+    ap (take (length old)) all ∙ take-append_seam old (more ++ rest)
 
 pub on_err : {T E : Type 0} (P : Type 0) (r : Result T E) → is_err r ≡ true → OnErr r P → P
 on_err P (Ok x) is h = absurd (true≢false (sym is))

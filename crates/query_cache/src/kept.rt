@@ -67,12 +67,13 @@ impl<A: Allocator + Copy> Kept<A> {
 impl<A: Allocator> Kept<A> {
     /// Appends the tables to a list, by rising serial.
     ///
-    /// Fails where memory is refused.
+    /// Where memory is refused, the list stays as it was.
     pub fn push_tables<B: Allocator>(
         &self,
         tables: &mut Vec<ListedKey, B>,
     ) -> Result<(), AllocError>
-        ensures { OnOk result (tables.new.items ≡ tables.old.items ++ self.now.keys) }
+        ensures pushed { OnOk result (tables.new.items ≡ tables.old.items ++ self.now.keys) }
+        ensures refused { OnErr result (tables.new.items ≡ tables.old.items) }
     {
         self.keys.push_onto(tables)
     }

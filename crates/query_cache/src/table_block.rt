@@ -1,7 +1,7 @@
 //! Tables whose serials and slots go side by side, a bit for each.
 
 ghost use Rattle.std.specs.Prelude.{◌≡◌, ◌<◌, ◌≤◌, ◌==◌, ◌++◌, ◌∷◌, [], IfSome, IsTrue, OnOk, filter, if◌then◌else◌};
-ghost use Rattle.std.specs.Prelude.{is_some};
+ghost use Rattle.std.specs.Prelude.{OnErr, is_some, length, take};
 ghost use Rattle.std.specs.Int.{bit_at};
 ghost use Rattle.query_cache.specs.TableList.{IsBlock, key_at, keeps, keys_of};
 ghost use Rattle.table_store.specs.Store.{table_at};
@@ -87,13 +87,14 @@ impl Block {
         Some(bit)
     }
 
-    /// Appends the tables to a list.
+    /// Appends the tables to a list. Where memory is refused, some may be after what was there.
     pub(crate) fn push_onto<A: Allocator>(
         &self,
         keys: &mut Vec<ListedKey, A>,
     ) -> Result<(), AllocError>
         requires block { IsBlock self.now }
-        ensures { OnOk result (keys.new.items ≡ keys.old.items ++ keys_of self.now) }
+        ensures pushed { OnOk result (keys.new.items ≡ keys.old.items ++ keys_of self.now) }
+        ensures front { OnErr result (take (length keys.old.items) keys.new.items ≡ keys.old.items) }
     {
         for bit in 0..self.width {
             self.push_one(bit, keys)?;
@@ -110,8 +111,9 @@ impl Block {
     ) -> Result<(), AllocError>
         requires block { IsBlock self.now }
         requires within { bit < self.now.width }
-        ensures { OnOk result (keys.new.items ≡ keys.old.items ++ (if bit_at self.now.bits bit == 1 then key_at self.now
-            bit ∷ [] else [])) }
+        ensures pushed { OnOk result (keys.new.items ≡ keys.old.items ++ (if bit_at self.now.bits bit == 1
+            then key_at self.now bit ∷ [] else [])) }
+        ensures refused { OnErr result (keys.new.items ≡ keys.old.items) }
     {
         if self.bits >> bit & 1 == 1 {
             let Some(key) = ListedKey::of(self.key_at(bit)) else {

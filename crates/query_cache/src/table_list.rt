@@ -60,12 +60,17 @@ impl<A: Allocator> TableList<A> {
 
     /// Appends the tables to another list.
     ///
-    /// Fails where memory is refused.
+    /// Where memory is refused, the other list stays as it was.
     pub fn push_onto<B: Allocator>(&self, keys: &mut Vec<ListedKey, B>) -> Result<(), AllocError>
-        ensures { OnOk result (keys.new.items ≡ keys.old.items ++ self.now.items) }
+        ensures pushed { OnOk result (keys.new.items ≡ keys.old.items ++ self.now.items) }
+        ensures refused { OnErr result (keys.new.items ≡ keys.old.items) }
     {
+        let before = keys.len();
         for block in &self.blocks {
-            block.push_onto(keys)?;
+            if block.push_onto(keys).is_err() {
+                keys.truncate(before);
+                return Err(AllocError);
+            }
         }
         Ok(())
     }

@@ -22,5 +22,5 @@ returns g c =
       rising = c.sync.ensures.once;
     } in
     let pushed : c.push_tables.new.tables.items ≡ c.new-tables.result.items ++ c.sync.new.self.keys
-    = subst (λ r. OnOk r (c.push_tables.new.tables.items ≡ c.new-tables.result.items ++ c.sync.new.self.keys)) c.expect-2.ensures c.push_tables.ensures in
+    = subst (λ r. OnOk r (c.push_tables.new.tables.items ≡ c.new-tables.result.items ++ c.sync.new.self.keys)) c.expect-2.ensures c.push_tables.ensures.pushed in
     subst (AreTablesOf q c.args.world.now.tables) (sym (pushed ∙ ap (λ ks. ks ++ c.sync.new.self.keys) c.new-tables.ensures.items)) synced
