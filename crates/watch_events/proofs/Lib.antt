@@ -1,3 +1,4 @@
+pub mod EventLines
 pub mod BinarySearches
 pub mod Numbers
 pub mod OrderedChanges

@@ -4,6 +4,7 @@ ghost use Rattle.std.specs.Prelude.{◌≡◌, ◌++◌, ◌∷◌, [], OnErr, O
 ghost use Rattle.std.specs.Fmt.{signed_decimal};
 ghost use Rattle.ecs_model.specs.Print.{value_text};
 ghost use Rattle.ecs_model.specs.stored.Watches.{event_id_text, event_text, event_word};
+ghost use Rattle.ecs_print.specs.Stops.{StopsWithin};
 ghost use Rattle.ecs_print.specs.Values.{behind_comma};
 
 use crate::text::Text;
@@ -77,6 +78,20 @@ impl<A: Allocator> Event<A> {
     {
         self.value
     }
+
+    /// The entity as it prints: its name, or its handle where it has none. An entity that is deleted prints as before.
+    pub fn entity_text(&self) -> &[u8]
+        ensures { result.now ≡ (self.now).entity_text }
+    {
+        self.entity_text.as_slice()
+    }
+
+    /// The id as it prints; empty where `id` is none.
+    pub fn id_text(&self) -> &[u8]
+        ensures { result.now ≡ (self.now).id_text }
+    {
+        self.id_text.as_slice()
+    }
 }
 
 /// Appends an event. Most commands have just one, so only room for one is made.
@@ -100,7 +115,8 @@ pub(crate) fn push_event<A: Allocator>(
 ///
 /// Fails where memory is refused; then a prefix of the line may be written.
 pub fn write_event<A: Allocator>(event: &Event<A>, out: &mut Vec<u8, A>) -> Result<(), AllocError>
-    ensures { OnOk result (out.new.items ≡ out.old.items ++ event_text event.now) }
+    ensures written { OnOk result (out.new.items ≡ out.old.items ++ event_text event.now) }
+    ensures front { OnErr result (StopsWithin out.old.items out.new.items (event_text event.now)) }
 {
     out.extend_from_slice(word(event.kind))?;
     out.extend_from_slice(event.watch.as_slice())?;
@@ -126,7 +142,8 @@ fn word(kind: EventKind) -> &'static [u8]
 
 /// Writes the id of an event's fact and the value that was set; nothing for an event without a fact.
 fn write_event_id<A: Allocator>(event: &Event<A>, out: &mut Vec<u8, A>) -> Result<(), AllocError>
-    ensures { OnOk result (out.new.items ≡ out.old.items ++ event_id_text event.now) }
+    ensures written { OnOk result (out.new.items ≡ out.old.items ++ event_id_text event.now) }
+    ensures front { OnErr result (StopsWithin out.old.items out.new.items (event_id_text event.now)) }
 {
     if event.id.is_none() {
         return Ok(());
@@ -141,7 +158,8 @@ fn write_event_id<A: Allocator>(event: &Event<A>, out: &mut Vec<u8, A>) -> Resul
 
 /// Writes the numbers of a value: `=`, then the numbers with commas between; nothing where there are none.
 fn write_numbers<A: Allocator>(numbers: &[i128], out: &mut Vec<u8, A>) -> Result<(), AllocError>
-    ensures { OnOk result (out.new.items ≡ out.old.items ++ value_text (Some numbers.now)) }
+    ensures written { OnOk result (out.new.items ≡ out.old.items ++ value_text (Some numbers.now)) }
+    ensures front { OnErr result (StopsWithin out.old.items out.new.items (value_text (Some numbers.now))) }
 {
     let Some((first, others)) = numbers.split_first() else {
         return Ok(());
@@ -153,7 +171,8 @@ fn write_numbers<A: Allocator>(numbers: &[i128], out: &mut Vec<u8, A>) -> Result
 
 /// Writes numbers, each after a comma.
 fn write_others<A: Allocator>(numbers: &[i128], out: &mut Vec<u8, A>) -> Result<(), AllocError>
-    ensures { OnOk result (out.new.items ≡ out.old.items ++ flat_map behind_comma numbers.now) }
+    ensures written { OnOk result (out.new.items ≡ out.old.items ++ flat_map behind_comma numbers.now) }
+    ensures front { OnErr result (StopsWithin out.old.items out.new.items (flat_map behind_comma numbers.now)) }
 {
     for number in numbers {
         out.extend_from_slice(b",")?;
@@ -164,7 +183,8 @@ fn write_others<A: Allocator>(numbers: &[i128], out: &mut Vec<u8, A>) -> Result<
 
 /// Writes a whole number in decimal.
 fn write_integer<A: Allocator>(number: &i128, out: &mut Vec<u8, A>) -> Result<(), AllocError>
-    ensures { OnOk result (out.new.items ≡ out.old.items ++ signed_decimal number.now) }
+    ensures written { OnOk result (out.new.items ≡ out.old.items ++ signed_decimal number.now) }
+    ensures refused { OnErr result (out.new.items ≡ out.old.items) }
 {
     let mut buffer = Buffer::new();
     out.extend_from_slice(buffer.format(*number).as_bytes())
