@@ -1,16 +1,22 @@
 -- What a command by names and handles is for a session.
-use Rattle.std.specs.Prelude.{◌≡◌, true, false, is_some, Result, Ok, Err, if◌then◌else◌}
+use Rattle.std.specs.Prelude.{◌≡◌, ℕ, true, false, List, Option, is_some, Result, Ok, Err, if◌then◌else◌}
 use Rattle.std.specs.Result.{result_map_both}
-use Rattle.std.proofs.Common.{ap, sym, ◌∙◌}
+use Rattle.std.proofs.Common.{ap, subst, sym, ◌∙◌}
 use Rattle.ecs_id.specs.declared.EntityId.{EntityId}
 use Rattle.ecs_id.specs.Id.{Id}
 use Rattle.ecs_model.specs.declared.faults.Refusal.{Refusal}
 use Rattle.ecs_model.specs.declared.faults.SessionRefusal.TheVariants.{EventsPending, OfWorld}
 use Rattle.ecs_model.specs.Orders.{DeleteOne, EntityRef, IdRef, WorldOrder, command_of, entity_found}
-use Rattle.ecs_model.specs.stored.Session.{InWorld, SessionState, apply, free_order, in_world}
+use Rattle.ecs_model.specs.stored.Session.{Answer, InWorld, SessionState, apply, free_order, in_world}
 use Rattle.ecs_model.specs.steps.Step.{Command, Delete}
-use Rattle.ecs_observe.specs.Answers.{carried_out}
-use Rattle.ecs_observe.specs.Commands.{FindsBoth, FindsIn, FindsOne}
+use Rattle.ecs_model.specs.declared.watches.StoredKind.{StoredKind}
+use Rattle.ecs_observe.specs.Answers.{AnswersApply, carried_out, none_born}
+use Rattle.ecs_observe.specs.Commands.{FindsBoth, FindsIn, FindsOne, answered}
+use Rattle.ecs_observe.specs.Following.{ListsOneLess, ListsOneMore}
+use Rattle.ecs_observe.specs.Standing.{Standing}
+use Rattle.ecs_observe.specs.Storing.{CountsStored}
+use Rattle.ecs_observe.specs.declared.applying.Answer as applied
+use Rattle.ecs_observe.specs.declared.errors.SessionError.{SessionError}
 
 module _ (s : SessionState) (order : WorldOrder) where
   -- one that means a command of the world
@@ -50,3 +56,38 @@ module _ (s : SessionState) (r : EntityRef) where
 
   pub one_found : (e : EntityId) → Ok e ≡ entity_found s.world r → FindsOne s r (Ok e)
   one_found e found = as_obeyed s (DeleteOne r) (Delete e) (deletes (Ok e) found)
+
+-- ---- the answer of a call, as a command answers it
+
+-- a call told as another one that meets an equal answer
+pub as_told : (told was : Result (Option EntityId) SessionError) (old new : Standing) (a b : Answer) → told ≡ was → b ≡ a → AnswersApply was b old new → AnswersApply told a old new
+as_told told was old new a b same is h = subst (λ r. AnswersApply r a old new) (sym same) (subst (λ x. AnswersApply was x old new) is h)
+
+-- it is accepted where the call is
+module _ {T : Type 0} (done : Result T SessionError) (told : Result applied.Answer SessionError) (same : answered told ≡ none_born done) where
+  pub more_told : (n : List ℕ) (old new : Standing) → ListsOneMore done n old new → ListsOneMore told n old new
+  more_told n old new h = by done told same h
+    where
+      by : (d : Result T SessionError) (t : Result applied.Answer SessionError) → answered t ≡ none_born d → ListsOneMore d n old new → ListsOneMore t n old new
+      by (Ok x) (Ok y) e h = h
+      by (Ok x) (Err y) e h = cc
+      by (Err x) (Ok y) e h = cc
+      by (Err x) (Err y) e h = h
+
+  pub less_told : (n : List ℕ) (old new : Standing) → ListsOneLess done n old new → ListsOneLess told n old new
+  less_told n old new h = by done told same h
+    where
+      by : (d : Result T SessionError) (t : Result applied.Answer SessionError) → answered t ≡ none_born d → ListsOneLess d n old new → ListsOneLess t n old new
+      by (Ok x) (Ok y) e h = h
+      by (Ok x) (Err y) e h = cc
+      by (Err x) (Ok y) e h = cc
+      by (Err x) (Err y) e h = h
+
+  pub counts_told : (kind : StoredKind) (text : List ℕ) (old new : Standing) → CountsStored done kind text old new → CountsStored told kind text old new
+  counts_told kind text old new h = by done told same h
+    where
+      by : (d : Result T SessionError) (t : Result applied.Answer SessionError) → answered t ≡ none_born d → CountsStored d kind text old new → CountsStored t kind text old new
+      by (Ok x) (Ok y) e h = h
+      by (Ok x) (Err y) e h = cc
+      by (Err x) (Ok y) e h = cc
+      by (Err x) (Err y) e h = h

@@ -9,6 +9,7 @@ pub mod DroppedQueries
 pub mod ChangedLists
 pub mod NewQueries
 pub mod CommandForms
+pub mod CreatedEntities
 pub mod StoringAnswers
 pub mod PinnedCounts
 pub mod StayingRows

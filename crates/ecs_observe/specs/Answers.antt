@@ -43,6 +43,15 @@ AnswersApply (Ok born) applied old new = applied ≡ Ok (session_of new, born)
 AnswersApply (Err (Refused reason)) applied old new = (applied ≡ Err reason) × (session_of new ≡ session_of old)
 AnswersApply (Err Memory) applied old new = session_of new ≡ session_of old
 
+-- what a command answers that creates an entity, and one that creates none
+abbrev pub born : Result EntityId SessionError → Result (Option EntityId) SessionError
+born (Ok entity) = Ok (Some entity)
+born (Err error) = Err error
+
+abbrev pub none_born : {T : Type 0} → Result T SessionError → Result (Option EntityId) SessionError
+none_born (Ok _) = Ok None
+none_born (Err error) = Err error
+
 -- what waits after an accepted command: its changes, if a stored query is notified of commands
 abbrev pub awaited : List Held → Changed → Option Changed
 awaited stored changed = if list_any (λ h. is_told h.kind) stored then Some changed else None

@@ -134,12 +134,17 @@ RefusesKept (Ok _) s n = (q : Query) × (kept_query s n ≡ Ok q)
 RefusesKept (Err (Refused reason)) s n = kept_query s n ≡ Err reason
 RefusesKept (Err Memory) s n = (q : Query) × (kept_query s n ≡ Ok q)
 
+-- an error says that no kept query has the name
+abbrev pub IsUnknownKept : SessionError → SessionState → List ℕ → Type 0
+IsUnknownKept (Refused reason) s n = kept_query s n ≡ Err reason
+IsUnknownKept Memory s n = ⊥
+
 -- the tables of the kept query with a name, as they are listed, are in `after`; or no kept query has the name, and
--- `after` is `before`
+-- `after` is `before`; or memory was refused, and `after` is empty
 abbrev pub GivesTables : {T : Type 0} → Result T SessionError → Standing → List ℕ → (before after : List TableKey) → Type 0
 GivesTables (Ok _) s n before after = option_map (λ list. list.keys) (list_at s n) ≡ Some after
 GivesTables (Err (Refused reason)) s n before after = (kept_query (session_of s) n ≡ Err reason) × (after ≡ before)
-GivesTables (Err Memory) s n before after = IsSome (list_at s n)
+GivesTables (Err Memory) s n before after = IsSome (list_at s n) × (after ≡ [])
 
 -- the plan by which the rows of a stored query are found, and the plan of the stored query with a name
 abbrev pub plan_of : Held → Plan

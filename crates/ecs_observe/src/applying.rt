@@ -4,7 +4,7 @@ ghost use Rattle.std.specs.Prelude.{◌≡◌, ◌≤◌, false};
 ghost use Rattle.std.specs.List.{list_any};
 ghost use Rattle.ecs_model.specs.Orders.{AddTo, DeleteOne, RemoveFrom, SetIn};
 ghost use Rattle.ecs_model.specs.stored.Session.{InWorld, apply};
-ghost use Rattle.ecs_observe.specs.Answers.{AnswersApply};
+ghost use Rattle.ecs_observe.specs.Answers.{AnswersApply, born, none_born};
 ghost use Rattle.ecs_observe.specs.Commands.{CountsApply, FindsIn, FindsOne, ListsApply, answered, order_of};
 ghost use Rattle.ecs_model.specs.References.{seen_id, seen_reference};
 ghost use Rattle.watch_stored.specs.Held.{is_compared};
@@ -89,42 +89,22 @@ impl<A: Allocator + Copy> Session<A> {
         ensures counted { CountsApply (order_of command.entry) result self.old self.new }
         ensures grows { (self.old).compared ≤ (self.new).compared }
     {
-        match self.carry_out(command) {
-            Ok(Some(entity)) => Ok(Answer::Born(entity)),
-            Ok(None) => Ok(Answer::Done),
-            Err(error) => Err(error),
-        }
-    }
-
-    fn carry_out(&mut self, command: Command<'_, A>) -> Result<Option<EntityId>, SessionError>
-        ensures answers { AnswersApply result (apply (session_of self.old) (order_of command.entry)) self.old self.new }
-        ensures lists { ListsApply (order_of command.entry) result self.old self.new }
-        ensures goes_on { TablesGoOn (self.old).world.tables (self.new).world.tables }
-        ensures stay { OnlyForgottenGo (self.old).world (self.new).world }
-        ensures compared { list_any is_compared (self.new).stored ≡ false → (self.new).compared ≡ (self.old).compared }
-        ensures counted { CountsApply (order_of command.entry) result self.old self.new }
-        ensures grows { (self.old).compared ≤ (self.new).compared }
-    {
         match command {
-            Command::New => self.fresh(),
-            Command::Entity { name } => self.entity(name),
-            Command::Component { name, schema } => self.component(name, schema),
-            Command::Add { entity, id } => self.add_to(entity, id),
-            Command::Set { entity, id, values } => self.set_in(entity, id, values),
-            Command::Remove { entity, id } => self.remove_from(entity, id),
-            Command::Delete { entity } => self.delete_one(entity),
-            Command::Store { kind, name, text } => self.store(kind, name, text),
-            Command::Drop { name } => self.drop_stored(name),
+            Command::New => with_born(self.fresh()),
+            Command::Entity { name } => with_born(self.entity(name)),
+            Command::Component { name, schema } => with_born(self.component(name, schema)),
+            Command::Add { entity, id } => with_done(self.add_to(entity, id)),
+            Command::Set { entity, id, values } => with_done(self.set_in(entity, id, values)),
+            Command::Remove { entity, id } => with_done(self.remove_from(entity, id)),
+            Command::Delete { entity } => with_done(self.delete_one(entity)),
+            Command::Store { kind, name, text } => with_done(self.store(kind, name, text)),
+            Command::Drop { name } => with_done(self.drop_stored(name)),
         }
     }
 
     /// Adds a fact.
-    fn add_to(
-        &mut self,
-        entity: Reference<'_>,
-        id: IdReference<'_>,
-    ) -> Result<Option<EntityId>, SessionError>
-        ensures answers { AnswersApply result (apply (session_of self.old)
+    fn add_to(&mut self, entity: Reference<'_>, id: IdReference<'_>) -> Result<(), SessionError>
+        ensures answers { AnswersApply (none_born result) (apply (session_of self.old)
             (InWorld (AddTo (seen_reference entity.entry) (seen_id id.entry)))) self.old self.new }
         ensures compared { (self.new).compared ≡ (self.old).compared }
         ensures lists { (self.new).stored ≡ (self.old).stored }
@@ -143,8 +123,8 @@ impl<A: Allocator + Copy> Session<A> {
         entity: Reference<'_>,
         id: IdReference<'_>,
         values: &[i128],
-    ) -> Result<Option<EntityId>, SessionError>
-        ensures answers { AnswersApply result (apply (session_of self.old)
+    ) -> Result<(), SessionError>
+        ensures answers { AnswersApply (none_born result) (apply (session_of self.old)
             (InWorld (SetIn (seen_reference entity.entry) (seen_id id.entry) values.now))) self.old
             self.new }
         ensures compared { (self.new).compared ≡ (self.old).compared }
@@ -163,8 +143,8 @@ impl<A: Allocator + Copy> Session<A> {
         &mut self,
         entity: Reference<'_>,
         id: IdReference<'_>,
-    ) -> Result<Option<EntityId>, SessionError>
-        ensures answers { AnswersApply result (apply (session_of self.old)
+    ) -> Result<(), SessionError>
+        ensures answers { AnswersApply (none_born result) (apply (session_of self.old)
             (InWorld (RemoveFrom (seen_reference entity.entry) (seen_id id.entry)))) self.old
             self.new }
         ensures compared { (self.new).compared ≡ (self.old).compared }
@@ -179,8 +159,8 @@ impl<A: Allocator + Copy> Session<A> {
     }
 
     /// Deletes an entity.
-    fn delete_one(&mut self, entity: Reference<'_>) -> Result<Option<EntityId>, SessionError>
-        ensures answers { AnswersApply result (apply (session_of self.old)
+    fn delete_one(&mut self, entity: Reference<'_>) -> Result<(), SessionError>
+        ensures answers { AnswersApply (none_born result) (apply (session_of self.old)
             (InWorld (DeleteOne (seen_reference entity.entry)))) self.old self.new }
         ensures compared { (self.new).compared ≡ (self.old).compared }
         ensures lists { (self.new).stored ≡ (self.old).stored }
@@ -221,5 +201,25 @@ impl<A: Allocator + Copy> Session<A> {
             Ok(found) => Ok(found),
             Err(refusal) => Err(SessionRefusal::OfWorld(refusal)),
         }
+    }
+}
+
+/// The answer to a command that created an entity, or why it was not carried out.
+fn with_born(answer: Result<EntityId, SessionError>) -> Result<Answer, SessionError>
+    ensures { answered result ≡ born answer }
+{
+    match answer {
+        Ok(entity) => Ok(Answer::Born(entity)),
+        Err(error) => Err(error),
+    }
+}
+
+/// The same of one that creates none.
+fn with_done(answer: Result<(), SessionError>) -> Result<Answer, SessionError>
+    ensures { answered result ≡ none_born answer }
+{
+    match answer {
+        Ok(()) => Ok(Answer::Done),
+        Err(error) => Err(error),
     }
 }

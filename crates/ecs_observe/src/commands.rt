@@ -1,8 +1,8 @@
 //! The commands of the world.
 
-ghost use Rattle.std.specs.Prelude.{◌≡◌, map};
+ghost use Rattle.std.specs.Prelude.{◌≡◌, IfOk, IsSome, None, map};
 ghost use Rattle.ecs_model.specs.steps.Step.{Add, Component, Delete, Entity, Fresh, Remove, SetValue};
-ghost use Rattle.ecs_observe.specs.Answers.{AnswersApply, AnswersCommand, carried_out};
+ghost use Rattle.ecs_observe.specs.Answers.{AnswersApply, AnswersCommand, born, carried_out, none_born};
 ghost use Rattle.ecs_observe.specs.Parts.{held_of};
 ghost use Rattle.ecs_observe.specs.Standing.{session_of};
 ghost use Rattle.ecs_observe.specs.Stored.{IsStored, entries_of};
@@ -17,13 +17,12 @@ use ecs_schema::Schema;
 use ecs_world::Changes;
 use std::alloc::Allocator;
 
-// Each command answers the entity that it created, if it creates one. It is refused as `EventsPending` while events
-// wait, and else as the world refuses it. It leaves the lists of kept queries as they are, and each still fits the
-// tables.
+// A command that creates an entity answers it. Each is refused as `EventsPending` while events wait, and else as the
+// world refuses it. It leaves the lists of kept queries as they are, and each still fits the tables.
 impl<A: Allocator + Copy> Session<A> {
     /// Creates an entity without a name and without facts, and answers it.
-    pub fn fresh(&mut self) -> Result<Option<EntityId>, SessionError>
-        ensures answers { AnswersApply result (carried_out (session_of self.old) (Fresh)) self.old self.new }
+    pub fn fresh(&mut self) -> Result<EntityId, SessionError>
+        ensures answers { AnswersApply (born result) (carried_out (session_of self.old) (Fresh)) self.old self.new }
         ensures compared { (self.new).compared ≡ (self.old).compared }
         ensures lists { (self.new).stored ≡ (self.old).stored }
         ensures goes_on { TablesGoOn (self.old).world.tables (self.new).world.tables }
@@ -34,12 +33,12 @@ impl<A: Allocator + Copy> Session<A> {
         }
         self.world.keeps();
         let done = self.world.fresh();
-        answer(&self.stored, &mut self.waiting, done)
+        answer_born(&self.stored, &mut self.waiting, done)
     }
 
     /// Creates an entity with a name and without facts, and answers it.
-    pub fn entity(&mut self, name: &str) -> Result<Option<EntityId>, SessionError>
-        ensures answers { AnswersApply result (carried_out (session_of self.old) (Entity name.now)) self.old self.new }
+    pub fn entity(&mut self, name: &str) -> Result<EntityId, SessionError>
+        ensures answers { AnswersApply (born result) (carried_out (session_of self.old) (Entity name.now)) self.old self.new }
         ensures compared { (self.new).compared ≡ (self.old).compared }
         ensures lists { (self.new).stored ≡ (self.old).stored }
         ensures goes_on { TablesGoOn (self.old).world.tables (self.new).world.tables }
@@ -50,16 +49,12 @@ impl<A: Allocator + Copy> Session<A> {
         }
         self.world.keeps();
         let done = self.world.entity(name);
-        answer(&self.stored, &mut self.waiting, done)
+        answer_born(&self.stored, &mut self.waiting, done)
     }
 
     /// Creates an entity with a name and fields, which holds the tag `Component`, and answers it.
-    pub fn component(
-        &mut self,
-        name: &str,
-        schema: Schema<A>,
-    ) -> Result<Option<EntityId>, SessionError>
-        ensures answers { AnswersApply result (carried_out (session_of self.old) (Component name.now schema)) self.old
+    pub fn component(&mut self, name: &str, schema: Schema<A>) -> Result<EntityId, SessionError>
+        ensures answers { AnswersApply (born result) (carried_out (session_of self.old) (Component name.now schema)) self.old
             self.new }
         ensures compared { (self.new).compared ≡ (self.old).compared }
         ensures lists { (self.new).stored ≡ (self.old).stored }
@@ -71,12 +66,12 @@ impl<A: Allocator + Copy> Session<A> {
         }
         self.world.keeps();
         let done = self.world.component(name, schema);
-        answer(&self.stored, &mut self.waiting, done)
+        answer_born(&self.stored, &mut self.waiting, done)
     }
 
     /// Adds a fact, and the facts that traits require with it.
-    pub fn add(&mut self, entity: EntityId, id: Id) -> Result<Option<EntityId>, SessionError>
-        ensures answers { AnswersApply result (carried_out (session_of self.old) (Add entity id)) self.old self.new }
+    pub fn add(&mut self, entity: EntityId, id: Id) -> Result<(), SessionError>
+        ensures answers { AnswersApply (none_born result) (carried_out (session_of self.old) (Add entity id)) self.old self.new }
         ensures compared { (self.new).compared ≡ (self.old).compared }
         ensures lists { (self.new).stored ≡ (self.old).stored }
         ensures goes_on { TablesGoOn (self.old).world.tables (self.new).world.tables }
@@ -87,17 +82,12 @@ impl<A: Allocator + Copy> Session<A> {
         }
         self.world.keeps();
         let done = self.world.add(entity, id);
-        answer(&self.stored, &mut self.waiting, done)
+        answer_done(&self.stored, &mut self.waiting, done)
     }
 
     /// Sets the value of a fact; adds the fact if it isn't held.
-    pub fn set(
-        &mut self,
-        entity: EntityId,
-        id: Id,
-        values: &[i128],
-    ) -> Result<Option<EntityId>, SessionError>
-        ensures answers { AnswersApply result (carried_out (session_of self.old) (SetValue entity id values.now))
+    pub fn set(&mut self, entity: EntityId, id: Id, values: &[i128]) -> Result<(), SessionError>
+        ensures answers { AnswersApply (none_born result) (carried_out (session_of self.old) (SetValue entity id values.now))
             self.old self.new }
         ensures compared { (self.new).compared ≡ (self.old).compared }
         ensures lists { (self.new).stored ≡ (self.old).stored }
@@ -109,12 +99,12 @@ impl<A: Allocator + Copy> Session<A> {
         }
         self.world.keeps();
         let done = self.world.set(entity, id, values);
-        answer(&self.stored, &mut self.waiting, done)
+        answer_done(&self.stored, &mut self.waiting, done)
     }
 
     /// Removes a fact, if it is held.
-    pub fn remove(&mut self, entity: EntityId, id: Id) -> Result<Option<EntityId>, SessionError>
-        ensures answers { AnswersApply result (carried_out (session_of self.old) (Remove entity id)) self.old self.new }
+    pub fn remove(&mut self, entity: EntityId, id: Id) -> Result<(), SessionError>
+        ensures answers { AnswersApply (none_born result) (carried_out (session_of self.old) (Remove entity id)) self.old self.new }
         ensures compared { (self.new).compared ≡ (self.old).compared }
         ensures lists { (self.new).stored ≡ (self.old).stored }
         ensures goes_on { TablesGoOn (self.old).world.tables (self.new).world.tables }
@@ -125,12 +115,12 @@ impl<A: Allocator + Copy> Session<A> {
         }
         self.world.keeps();
         let done = self.world.remove(entity, id);
-        answer(&self.stored, &mut self.waiting, done)
+        answer_done(&self.stored, &mut self.waiting, done)
     }
 
     /// Deletes an entity, and what its relationships say to delete with it.
-    pub fn delete(&mut self, entity: EntityId) -> Result<Option<EntityId>, SessionError>
-        ensures answers { AnswersApply result (carried_out (session_of self.old) (Delete entity)) self.old self.new }
+    pub fn delete(&mut self, entity: EntityId) -> Result<(), SessionError>
+        ensures answers { AnswersApply (none_born result) (carried_out (session_of self.old) (Delete entity)) self.old self.new }
         ensures compared { (self.new).compared ≡ (self.old).compared }
         ensures lists { (self.new).stored ≡ (self.old).stored }
         ensures goes_on { TablesGoOn (self.old).world.tables (self.new).world.tables }
@@ -141,7 +131,7 @@ impl<A: Allocator + Copy> Session<A> {
         }
         self.world.keeps();
         let done = self.world.delete(entity);
-        answer(&self.stored, &mut self.waiting, done)
+        answer_done(&self.stored, &mut self.waiting, done)
     }
 }
 
@@ -164,4 +154,34 @@ fn answer<A: Allocator>(
     };
     *waiting = after;
     Ok(born)
+}
+
+/// The same of a command that creates an entity.
+#[inline(always)]
+fn answer_born<A: Allocator>(
+    stored: &StoredQueries<A>,
+    waiting: &mut Option<Changes<A>>,
+    done: Result<Changes<A>, CommandError>,
+) -> Result<EntityId, SessionError>
+    requires stored { IsStored stored.now }
+    requires born { IfOk done (λ changed. IsSome changed.born) }
+    ensures { AnswersCommand (map held_of (entries_of stored.now)) waiting.old done (born result) waiting.new }
+{
+    let created = answer(stored, waiting, done)?;
+    Ok(created.unwrap())
+}
+
+/// The same of one that creates none.
+#[inline(always)]
+fn answer_done<A: Allocator>(
+    stored: &StoredQueries<A>,
+    waiting: &mut Option<Changes<A>>,
+    done: Result<Changes<A>, CommandError>,
+) -> Result<(), SessionError>
+    requires stored { IsStored stored.now }
+    requires none { IfOk done (λ changed. changed.born ≡ None) }
+    ensures { AnswersCommand (map held_of (entries_of stored.now)) waiting.old done (none_born result) waiting.new }
+{
+    answer(stored, waiting, done)?;
+    Ok(())
 }

@@ -4,7 +4,7 @@ ghost use Rattle.std.specs.Prelude.{◌≡◌, ◌≢◌, ◌<◌, ◌≤◌, Al
 ghost use Rattle.std.specs.List.{list_any};
 ghost use Rattle.std.specs.String.{string_bytes};
 ghost use Rattle.ecs_model.specs.stored.Session.{Drop, Store, apply, most_stored};
-ghost use Rattle.ecs_observe.specs.Answers.{AnswersApply};
+ghost use Rattle.ecs_observe.specs.Answers.{AnswersApply, none_born};
 ghost use Rattle.ecs_observe.specs.Following.{ListsOneLess, ListsOneMore};
 ghost use Rattle.watch_stored.specs.Lists.{HasNewList};
 ghost use Rattle.ecs_observe.specs.Parts.{held_of};
@@ -15,7 +15,6 @@ ghost use Rattle.ecs_observe.specs.Storing.{CountsStored, store_refusal, with_he
 use crate::pinning::{pin_all, unpin_all};
 use crate::watched::read_watched;
 use crate::{Session, SessionError};
-use ecs_id::EntityId;
 use ecs_model::faults::{Refusal, SessionRefusal};
 use ecs_model::is_name;
 use ecs_model::watches::StoredKind;
@@ -26,19 +25,13 @@ use watch_stored::{StoredQuery, stored_query};
 const MOST_STORED: usize = 1024;
 
 impl<A: Allocator + Copy> Session<A> {
-    /// Stores the query of a text under a new name. The entities that it names can't be deleted while it is stored. It
-    /// answers no entity.
+    /// Stores the query of a text under a new name. The entities that it names can't be deleted while it is stored.
     ///
     /// Refused in this order: while events wait; where the text of the name is no name; where a stored query has the
     /// name; where 1,024 queries are stored; with the fault of the text; and with the fault of the query for its kind:
     /// a monitor or an observer needs `$this`, and an observer has exactly one term.
-    pub fn store(
-        &mut self,
-        kind: StoredKind,
-        name: &str,
-        text: &str,
-    ) -> Result<Option<EntityId>, SessionError>
-        ensures answers { AnswersApply result (apply (session_of self.old) (Store kind name.now text.now)) self.old
+    pub fn store(&mut self, kind: StoredKind, name: &str, text: &str) -> Result<(), SessionError>
+        ensures answers { AnswersApply (none_born result) (apply (session_of self.old) (Store kind name.now text.now)) self.old
             self.new }
         ensures compared { list_any is_compared (self.new).stored ≡ false → (self.new).compared ≡ (self.old).compared }
         ensures counted { CountsStored result kind text.now self.old self.new }
@@ -56,13 +49,12 @@ impl<A: Allocator + Copy> Session<A> {
         let stored = stored_query(alloc, world, kind, query, &mut compared)?;
         let name = String::from_str(alloc, name)?;
         self.hold(name, stored, compared)?;
-        Ok(None)
+        Ok(())
     }
 
-    /// Drops the stored query with a name. Refused while events wait, and where no stored query has the name. It
-    /// answers no entity.
-    pub fn drop_stored(&mut self, name: &str) -> Result<Option<EntityId>, SessionError>
-        ensures answers { AnswersApply result (apply (session_of self.old) (Drop name.now)) self.old self.new }
+    /// Drops the stored query with a name. Refused while events wait, and where no stored query has the name.
+    pub fn drop_stored(&mut self, name: &str) -> Result<(), SessionError>
+        ensures answers { AnswersApply (none_born result) (apply (session_of self.old) (Drop name.now)) self.old self.new }
         ensures compared { (self.new).compared ≡ (self.old).compared }
         ensures lists { ListsOneLess result name.now self.old self.new }
         ensures tables { (self.new).world.tables ≡ (self.old).world.tables }
@@ -74,7 +66,7 @@ impl<A: Allocator + Copy> Session<A> {
             return Err(SessionError::Refused(SessionRefusal::UnknownQuery));
         };
         unpin_all(&mut self.world, dropped.value.value.plan.query().mentions());
-        Ok(None)
+        Ok(())
     }
 
     /// Why a query can't be stored under a name, whatever its text.

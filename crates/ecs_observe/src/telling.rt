@@ -4,6 +4,7 @@ ghost use Rattle.std.specs.Prelude.{◌≡◌, ◌+◌, ◌≤◌, ◌++◌, IfO
 ghost use Rattle.std.specs.List.{list_any};
 ghost use Rattle.ecs_model.specs.stored.Session.{after_events, events};
 ghost use Rattle.ecs_model.specs.stored.Watches.{event_text};
+ghost use Rattle.ecs_print.specs.Stops.{StopsWithin};
 ghost use Rattle.ecs_observe.specs.Following.{lists_of};
 ghost use Rattle.ecs_observe.specs.Lists.{KeepLists};
 ghost use Rattle.ecs_observe.specs.Parts.{with_all_kept, with_kept_at};
@@ -76,6 +77,9 @@ impl<A: Allocator + Copy> Session<A> {
         ensures written { OnOk result (output.new.items ≡ output.old.items
             ++ flat_map event_text (events (session_of self.old))) }
         ensures after { OnOk result (session_of self.new ≡ after_events (session_of self.old)) }
+        ensures refused { OnErr result (self.new ≡ self.old) }
+        ensures front { OnErr result (StopsWithin output.old.items output.new.items
+            (flat_map event_text (events (session_of self.old)))) }
         ensures grows { (self.old).compared ≤ (self.new).compared }
         ensures few { (self.new).compared ≤ (self.old).compared + searched_in self.old }
         ensures counted { OnOk result (min ((self.old).compared + taken_in self.old) 18446744073709551615
@@ -110,9 +114,10 @@ fn keep_few<A: Allocator + Copy>(told: &mut Vec<Event<A>, A>) {
     }
 }
 
-/// Appends the lines of events.
+/// Appends the lines of events. Where memory is refused, a prefix of them may be written.
 fn write_all<A: Allocator>(events: &[Event<A>], output: &mut Vec<u8, A>) -> Result<(), AllocError>
-    ensures { OnOk result (output.new.items ≡ output.old.items ++ flat_map event_text events.now) }
+    ensures written { OnOk result (output.new.items ≡ output.old.items ++ flat_map event_text events.now) }
+    ensures front { OnErr result (StopsWithin output.old.items output.new.items (flat_map event_text events.now)) }
 {
     for event in events {
         write_event(event, output)?;

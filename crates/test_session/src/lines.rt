@@ -116,7 +116,7 @@ fn make_component<A: Allocator + Copy>(
     fields: &[(&str, Kind)],
 ) -> Answer {
     match Schema::new(alloc, fields) {
-        Ok(schema) => session.component(name, schema),
+        Ok(schema) => made(session.component(name, schema)),
         Err(_) => Err(SessionError::Memory),
     }
 }
@@ -143,6 +143,15 @@ fn sync<A: Allocator + Copy>(session: &mut Session<A>, name: &str) -> Answer {
     Ok(None)
 }
 
+fn made(answer: Result<EntityId, SessionError>) -> Answer {
+    Ok(Some(answer?))
+}
+
+fn done(answer: Result<(), SessionError>) -> Answer {
+    answer?;
+    Ok(None)
+}
+
 /// Carries out a line. Rows and events are written after what was written.
 pub(crate) fn carry_out<A: Allocator + Copy>(
     session: &mut Session<A>,
@@ -153,14 +162,16 @@ pub(crate) fn carry_out<A: Allocator + Copy>(
     match line {
         Line::New => Ok(None),
         Line::Component(name, fields) => make_component(session, alloc, name, fields),
-        Line::Entity(name) => session.entity(name),
-        Line::Fresh => session.fresh(),
-        Line::Add(entity, named) => session.add(first_at(entity), id_of(named)?),
-        Line::Set(entity, named, values) => session.set(first_at(entity), id_of(named)?, values),
-        Line::Remove(entity, named) => session.remove(first_at(entity), id_of(named)?),
-        Line::Delete(entity) => session.delete(first_at(entity)),
-        Line::Store(kind, name, text) => session.store(kind, name, text),
-        Line::Drop(name) => session.drop_stored(name),
+        Line::Entity(name) => made(session.entity(name)),
+        Line::Fresh => made(session.fresh()),
+        Line::Add(entity, named) => done(session.add(first_at(entity), id_of(named)?)),
+        Line::Set(entity, named, values) => {
+            done(session.set(first_at(entity), id_of(named)?, values))
+        }
+        Line::Remove(entity, named) => done(session.remove(first_at(entity), id_of(named)?)),
+        Line::Delete(entity) => done(session.delete(first_at(entity))),
+        Line::Store(kind, name, text) => done(session.store(kind, name, text)),
+        Line::Drop(name) => done(session.drop_stored(name)),
         Line::Rows(name) => write_rows(session, name, out),
         Line::AddNamed(entity, tag) => add_named(session, entity, tag),
         Line::Sync(name) => sync(session, name),

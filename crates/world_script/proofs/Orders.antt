@@ -26,7 +26,7 @@ use Rattle.ecs_model.specs.stored.Session.{Answer, Drop, InWorld, SessionOrder, 
 use Rattle.ecs_model.specs.stored.Refusal.{session_refusal_text}
 use Rattle.ecs_model.specs.stored.Watches.{event_text}
 use Rattle.ecs_world.specs.Standing.{Standing as World}
-use Rattle.ecs_observe.specs.Answers.{AnswersApply, AnswersRows, carried_out}
+use Rattle.ecs_observe.specs.Answers.{AnswersApply, AnswersRows, born, carried_out, none_born}
 use Rattle.ecs_observe.specs.Standing.{Standing, session_of}
 use Rattle.ecs_observe.specs.declared.errors.SessionError.{SessionError}
 use Rattle.ecs_observe.specs.declared.errors.SessionError.TheVariants.{Refused, Memory}
@@ -80,7 +80,7 @@ module _ (old mid new : Standing) (n : ℕ) (order : SessionOrder) (before after
       })
 
   -- one that was refused
-  IsDone-error : (error : SessionError) (applied : Answer) → AnswersApply (Err error) applied old mid → TellsAnswer (Err error) n (session_of mid) (session_of new) before after refused
+  IsDone-error : (error : SessionError) (applied : Answer) → AnswersApply (Err error) applied old mid → TellsAnswer {T = Option EntityId} (Err error) n (session_of mid) (session_of new) before after refused
       → Does applied
   IsDone-error (Refused reason) applied answered told =
       subst Does (sym answered.0) (record { session_left = told.1 ∙ answered.1; printed = (told.0).0; answered = (told.0).1 })
@@ -97,6 +97,17 @@ IsDone-born : (old mid new : Standing) (n : ℕ) (before after : List ℕ) (refu
     → IsDone (order_effect (session_of old) n (InWorld MakeFresh) applied) (session_of new) before after refused
 IsDone-born old mid new n before after refused (Ok born) applied answered told = IsDone-accepted old mid new n (InWorld MakeFresh) before after refused _ born applied refl answered told
 IsDone-born old mid new n before after refused (Err error) applied answered told = IsDone-error old mid new n (InWorld MakeFresh) before after refused error applied answered told
+
+-- what is printed is the same whether the created entity is answered or not
+pub tells_born : (r : Result Bool AllocError) (answer : Result EntityId SessionError) (n : ℕ) (s t : SessionState) (before after : List ℕ) → IfOk r (TellsAnswer answer n s t before after)
+    → IfOk r (TellsAnswer (born answer) n s t before after)
+tells_born r (Ok entity) n s t before after told = told
+tells_born r (Err error) n s t before after told = told
+
+pub tells_done : {T : Type 0} (r : Result Bool AllocError) (answer : Result T SessionError) (n : ℕ) (s t : SessionState) (before after : List ℕ) → IfOk r (TellsAnswer answer n s t before after)
+    → IfOk r (TellsAnswer (none_born answer) n s t before after)
+tells_done r (Ok x) n s t before after told = told
+tells_done r (Err error) n s t before after told = told
 
 -- the command of a line that names an entity to be deleted
 abbrev asked_to_delete : Result EntityId Refusal → Result Command Refusal

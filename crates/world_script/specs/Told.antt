@@ -25,11 +25,11 @@ pub record TellsAccepted (own : List ℕ) (old new : SessionState) (before after
   pub answered : refused ≡ false
 
 -- the answer to a command was printed: its events where it was accepted, or its refusal
-abbrev pub TellsAnswer : Result (Option EntityId) SessionError → ℕ → SessionState → SessionState → List ℕ → List ℕ → Bool → Type 0
-TellsAnswer (Ok born) n old new before after refused = TellsAccepted [] old new before after refused
+abbrev pub TellsAnswer : {T : Type 0} → Result T SessionError → ℕ → SessionState → SessionState → List ℕ → List ℕ → Bool → Type 0
+TellsAnswer (Ok _) n old new before after refused = TellsAccepted [] old new before after refused
 TellsAnswer (Err error) n old new before after refused = TellsError error n before after refused × (new ≡ old)
 
 -- the answer to `new` was printed: the handle of the entity born and the events, or its refusal
 abbrev pub TellsBorn : Result (Option EntityId) SessionError → ℕ → SessionState → SessionState → List ℕ → List ℕ → Bool → Type 0
 TellsBorn (Ok born) n old new before after refused = TellsAccepted (own_text (InWorld MakeFresh) born) old new before after refused
-TellsBorn (Err error) n old new before after refused = TellsAnswer (Err error) n old new before after refused
+TellsBorn (Err error) n old new before after refused = TellsAnswer {T = Option EntityId} (Err error) n old new before after refused

@@ -5,6 +5,7 @@ ghost use Rattle.ecs_model.specs.Refusal.{refusal_text, schema_fault_text};
 ghost use Rattle.ecs_model.specs.stored.Refusal.{session_refusal_text};
 ghost use Rattle.ecs_model.specs.stored.Session.{after_events, events};
 ghost use Rattle.ecs_model.specs.stored.Watches.{event_text};
+ghost use Rattle.ecs_observe.specs.Answers.{born};
 ghost use Rattle.ecs_observe.specs.Standing.{session_of};
 ghost use Rattle.world_script.specs.Told.{TellsAnswer, TellsBorn, TellsError, TellsRefusal};
 
@@ -79,9 +80,9 @@ pub(crate) fn refuse_query<A: Allocator>(
 
 impl<A: Allocator + Copy> Interpreter<A> {
     /// Prints what the session answered to a command: the events that wait where it was accepted. After that none wait.
-    pub(crate) fn tell_answer(
+    pub(crate) fn tell_answer<T: Copy>(
         &mut self,
-        answer: Result<Option<EntityId>, SessionError>,
+        answer: Result<T, SessionError>,
     ) -> Result<bool, AllocError>
         ensures { IfOk result (TellsAnswer answer self.old.number (session_of self.old.session)
             (session_of self.new.session) self.old.output.items self.new.output.items) }
@@ -97,18 +98,16 @@ impl<A: Allocator + Copy> Interpreter<A> {
     /// none wait.
     pub(crate) fn tell_born(
         &mut self,
-        answer: Result<Option<EntityId>, SessionError>,
+        answer: Result<EntityId, SessionError>,
     ) -> Result<bool, AllocError>
-        ensures { IfOk result (TellsBorn answer self.old.number (session_of self.old.session)
+        ensures { IfOk result (TellsBorn (born answer) self.old.number (session_of self.old.session)
             (session_of self.new.session) self.old.output.items self.new.output.items) }
     {
-        let born = match answer {
-            Ok(born) => born,
+        let entity = match answer {
+            Ok(entity) => entity,
             Err(error) => return tell_error(self.number, error, &mut self.output),
         };
-        if let Some(entity) = born {
-            write_handle_line(entity, &mut self.output)?;
-        }
+        write_handle_line(entity, &mut self.output)?;
         tell_events(&mut self.session, &mut self.output)?;
         Ok(false)
     }

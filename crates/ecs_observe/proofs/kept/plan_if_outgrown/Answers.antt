@@ -59,7 +59,7 @@ returns-clause-planned g c =
       subst (IsPlannedNow w) (sym c.replace.ensures) (record {
         tables = c.put_tables.new.tables.items;
         are_tables = subst (λ (x : Query). AreTablesOf x w.tables c.put_tables.new.tables.items) (sym same)
-            (subst (AreTablesOf q w.tables) (sym c.in_ok-put_tables.ensures) (record { listed = c.in_ok-sync.ensures.listed q c.requires.list.patterns; rising = c.sync.ensures.once }));
+            (subst (AreTablesOf q w.tables) (sym c.in_ok-put_tables.ensures.listed) (record { listed = c.in_ok-sync.ensures.listed q c.requires.list.patterns; rising = c.sync.ensures.once }));
         planned = subst (λ (x : Query). IsPlannedForKept w x (length c.put_tables.new.tables.items) p) (sym asked) (subst (λ n. IsPlannedForKept w c.query.result.now n p) (c.len.ensures ∙ long) c.in_ok-planned.ensures.planned);
       }),
       c.newest_table-newest.ensures,

@@ -9,7 +9,7 @@ use Rattle.ecs_observe.proofs.kept.send_rows_by_list.Goals as goal
 
 pub send_rows_from-requires-clause-tables : goal.send_rows_from-requires-clause-tables
 send_rows_from-requires-clause-tables g c =
-    subst (AreTablesOf (c.args.plan.now).query (c.args.world.now).tables) (sym (c.as_slice.ensures.value ∙ c.in_ok-put_tables.ensures)) c.requires.tables
+    subst (AreTablesOf (c.args.plan.now).query (c.args.world.now).tables) (sym (c.as_slice.ensures.value ∙ c.in_ok-put_tables.ensures.listed)) c.requires.tables
 
 -- where memory is refused before a row is written
 pub returns-in_err-put_tables-clause-front : goal.returns-in_err-put_tables-clause-front
@@ -53,4 +53,4 @@ returns-clause-kept g c = c.send_rows_from.ensures.kept
 
 pub returns-clause-probes : goal.returns-clause-probes
 returns-clause-probes g c =
-    subst (λ (keys : List TableKey). IfOk c.send_rows_from.result (StaysInTables c.args.world.now c.args.plan.now keys)) (c.as_slice.ensures.value ∙ c.in_ok-put_tables.ensures) c.send_rows_from.ensures.probes
+    subst (λ (keys : List TableKey). IfOk c.send_rows_from.result (StaysInTables c.args.world.now c.args.plan.now keys)) (c.as_slice.ensures.value ∙ c.in_ok-put_tables.ensures.listed) c.send_rows_from.ensures.probes

@@ -3,6 +3,8 @@ use Rattle.std.proofs.Common.{subst}
 use Rattle.ecs_model.specs.steps.Step.{Component}
 use Rattle.ecs_observe.proofs.KeptLists.{lists_later}
 use Rattle.ecs_observe.proofs.CommandAnswers.{answer_left, pending_now, session_left}
+use Rattle.ecs_observe.proofs.CreatedEntities.{component_made}
+use Rattle.ecs_observe.specs.Answers.{born}
 use Rattle.ecs_observe.specs.Standing.{Standing}
 use Rattle.ecs_observe.specs.Stored.{entries_of}
 use Rattle.ecs_archetypes.specs.Staying.{stay_same}
@@ -13,16 +15,19 @@ use Rattle.ecs_observe.proofs.session.Session.component.Goals as goal
 pub returns-then-has_events-clause-answers : goal.returns-then-has_events-clause-answers
 returns-then-has_events-clause-answers g c = pending_now _ c.args.self.now c.self.view_is c.has_events.result c.has_events.ensures (Component c.args.name.now c.args.schema) c.if-has_events.true
 
+pub answer_born-requires-clause-born : goal.answer_born-requires-clause-born
+answer_born-requires-clause-born g c = component_made c.self.inside.world.state c.component-done.new.self.state c.args.name.now c.args.schema c.component-done.result c.component-done.ensures.answers
+
 pub invariant_of-self : goal.invariant_of-self
 invariant_of-self g c = (
-  session_left _ c.args.self.now c.self.view_is c.has_events.result c.has_events.ensures c.self.invariant.0 c.if-has_events.false c.component-done.new.self (Component c.args.name.now c.args.schema) c.keeps.ensures c.component-done.result c.answer.result c.answer.new.waiting c.component-done.ensures.answers c.answer.ensures,
+  session_left _ c.args.self.now c.self.view_is c.has_events.result c.has_events.ensures c.self.invariant.0 c.if-has_events.false c.component-done.new.self (Component c.args.name.now c.args.schema) c.keeps.ensures c.component-done.result (born c.answer_born.result) c.answer_born.new.waiting c.component-done.ensures.answers c.answer_born.ensures,
   lists_later c.self.inside.world.tables c.component-done.new.self.tables c.component-done.ensures.goes_on (entries_of c.self.inside.stored) c.self.invariant.1,
   c.self.invariant.2,
 )
 
 pub returns-clause-answers : goal.returns-clause-answers
 returns-clause-answers g c =
-    answer_left _ c.args.self.now c.self.view_is c.has_events.result c.has_events.ensures c.self.invariant.0 c.if-has_events.false c.component-done.new.self (Component c.args.name.now c.args.schema) c.keeps.ensures c.component-done.result c.answer.result c.answer.new.waiting c.component-done.ensures.answers c.answer.ensures
+    answer_left _ c.args.self.now c.self.view_is c.has_events.result c.has_events.ensures c.self.invariant.0 c.if-has_events.false c.component-done.new.self (Component c.args.name.now c.args.schema) c.keeps.ensures c.component-done.result (born c.answer_born.result) c.answer_born.new.waiting c.component-done.ensures.answers c.answer_born.ensures
 
 pub returns-then-has_events-clause-goes_on : goal.returns-then-has_events-clause-goes_on
 returns-then-has_events-clause-goes_on g c = goes_on_same c.args.self.now.world.tables
@@ -42,8 +47,8 @@ returns-then-has_events-clause-compared g c = grind arith
 pub returns-then-has_events-clause-lists : goal.returns-then-has_events-clause-lists
 returns-then-has_events-clause-lists g c = grind arith
 
-pub answer-requires : goal.answer-requires
-answer-requires g c = grind arith
+pub answer_born-requires-clause-stored : goal.answer_born-requires-clause-stored
+answer_born-requires-clause-stored g c = grind arith
 
 pub returns-clause-compared : goal.returns-clause-compared
 returns-clause-compared g c = grind arith

@@ -2,6 +2,8 @@ use Rattle.std.proofs.Common.{subst}
 use Rattle.ecs_model.specs.steps.Step.{Remove}
 use Rattle.ecs_observe.proofs.KeptLists.{lists_later}
 use Rattle.ecs_observe.proofs.CommandAnswers.{answer_left, pending_now, session_left}
+use Rattle.ecs_observe.proofs.CreatedEntities.{made}
+use Rattle.ecs_observe.specs.Answers.{none_born}
 use Rattle.ecs_observe.specs.Standing.{Standing}
 use Rattle.ecs_observe.specs.Stored.{entries_of}
 use Rattle.ecs_archetypes.specs.Staying.{stay_same}
@@ -12,16 +14,19 @@ use Rattle.ecs_observe.proofs.session.Session.remove.Goals as goal
 pub returns-then-has_events-clause-answers : goal.returns-then-has_events-clause-answers
 returns-then-has_events-clause-answers g c = pending_now _ c.args.self.now c.self.view_is c.has_events.result c.has_events.ensures (Remove c.args.entity c.args.id) c.if-has_events.true
 
+pub answer_done-requires-clause-none : goal.answer_done-requires-clause-none
+answer_done-requires-clause-none g c = made c.self.inside.world.state c.remove-done.new.self.state (Remove c.args.entity c.args.id) c.remove-done.result c.remove-done.ensures.answers
+
 pub invariant_of-self : goal.invariant_of-self
 invariant_of-self g c = (
-  session_left _ c.args.self.now c.self.view_is c.has_events.result c.has_events.ensures c.self.invariant.0 c.if-has_events.false c.remove-done.new.self (Remove c.args.entity c.args.id) c.keeps.ensures c.remove-done.result c.answer.result c.answer.new.waiting c.remove-done.ensures.answers c.answer.ensures,
+  session_left _ c.args.self.now c.self.view_is c.has_events.result c.has_events.ensures c.self.invariant.0 c.if-has_events.false c.remove-done.new.self (Remove c.args.entity c.args.id) c.keeps.ensures c.remove-done.result (none_born c.answer_done.result) c.answer_done.new.waiting c.remove-done.ensures.answers c.answer_done.ensures,
   lists_later c.self.inside.world.tables c.remove-done.new.self.tables c.remove-done.ensures.goes_on (entries_of c.self.inside.stored) c.self.invariant.1,
   c.self.invariant.2,
 )
 
 pub returns-clause-answers : goal.returns-clause-answers
 returns-clause-answers g c =
-    answer_left _ c.args.self.now c.self.view_is c.has_events.result c.has_events.ensures c.self.invariant.0 c.if-has_events.false c.remove-done.new.self (Remove c.args.entity c.args.id) c.keeps.ensures c.remove-done.result c.answer.result c.answer.new.waiting c.remove-done.ensures.answers c.answer.ensures
+    answer_left _ c.args.self.now c.self.view_is c.has_events.result c.has_events.ensures c.self.invariant.0 c.if-has_events.false c.remove-done.new.self (Remove c.args.entity c.args.id) c.keeps.ensures c.remove-done.result (none_born c.answer_done.result) c.answer_done.new.waiting c.remove-done.ensures.answers c.answer_done.ensures
 
 pub returns-then-has_events-clause-goes_on : goal.returns-then-has_events-clause-goes_on
 returns-then-has_events-clause-goes_on g c = goes_on_same c.args.self.now.world.tables

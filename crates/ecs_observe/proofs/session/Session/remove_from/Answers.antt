@@ -2,7 +2,7 @@ use Rattle.std.proofs.Common.{refl, subst}
 use Rattle.ecs_model.specs.Orders.{RemoveFrom, command_of}
 use Rattle.ecs_model.specs.stored.Session.{Answer}
 use Rattle.ecs_model.specs.steps.Step.{Remove}
-use Rattle.ecs_observe.specs.Answers.{AnswersApply}
+use Rattle.ecs_observe.specs.Answers.{AnswersApply, none_born}
 use Rattle.ecs_model.specs.References.{seen_id, seen_reference}
 use Rattle.ecs_archetypes.specs.Staying.{stay_same}
 use Rattle.table_store.specs.Going.{goes_on_same}
@@ -11,7 +11,7 @@ use Rattle.ecs_observe.proofs.session.Session.remove_from.Goals as goal
 pub returns-in-Ok-clause-answers : goal.returns-in-Ok-clause-answers
 unfolding command_of
 returns-in-Ok-clause-answers g c =
-    subst (λ (a : Answer). AnswersApply c.remove.result a c.args.self.now c.remove.new.self) (c.in-Ok.ensures Remove (RemoveFrom (seen_reference c.args.entity) (seen_id c.args.id)) refl) c.remove.ensures.answers
+    subst (λ (a : Answer). AnswersApply (none_born c.remove.result) a c.args.self.now c.remove.new.self) (c.in-Ok.ensures Remove (RemoveFrom (seen_reference c.args.entity) (seen_id c.args.id)) refl) c.remove.ensures.answers
 
 pub returns-in-Err-clause-answers : goal.returns-in-Err-clause-answers
 unfolding command_of

@@ -2,6 +2,8 @@ use Rattle.std.proofs.Common.{subst}
 use Rattle.ecs_model.specs.steps.Step.{SetValue}
 use Rattle.ecs_observe.proofs.KeptLists.{lists_later}
 use Rattle.ecs_observe.proofs.CommandAnswers.{answer_left, pending_now, session_left}
+use Rattle.ecs_observe.proofs.CreatedEntities.{made}
+use Rattle.ecs_observe.specs.Answers.{none_born}
 use Rattle.ecs_observe.specs.Standing.{Standing}
 use Rattle.ecs_observe.specs.Stored.{entries_of}
 use Rattle.ecs_archetypes.specs.Staying.{stay_same}
@@ -12,16 +14,19 @@ use Rattle.ecs_observe.proofs.session.Session.set.Goals as goal
 pub returns-then-has_events-clause-answers : goal.returns-then-has_events-clause-answers
 returns-then-has_events-clause-answers g c = pending_now _ c.args.self.now c.self.view_is c.has_events.result c.has_events.ensures (SetValue c.args.entity c.args.id c.args.values.now) c.if-has_events.true
 
+pub answer_done-requires-clause-none : goal.answer_done-requires-clause-none
+answer_done-requires-clause-none g c = made c.self.inside.world.state c.set-done.new.self.state (SetValue c.args.entity c.args.id c.args.values.now) c.set-done.result c.set-done.ensures.answers
+
 pub invariant_of-self : goal.invariant_of-self
 invariant_of-self g c = (
-  session_left _ c.args.self.now c.self.view_is c.has_events.result c.has_events.ensures c.self.invariant.0 c.if-has_events.false c.set-done.new.self (SetValue c.args.entity c.args.id c.args.values.now) c.keeps.ensures c.set-done.result c.answer.result c.answer.new.waiting c.set-done.ensures.answers c.answer.ensures,
+  session_left _ c.args.self.now c.self.view_is c.has_events.result c.has_events.ensures c.self.invariant.0 c.if-has_events.false c.set-done.new.self (SetValue c.args.entity c.args.id c.args.values.now) c.keeps.ensures c.set-done.result (none_born c.answer_done.result) c.answer_done.new.waiting c.set-done.ensures.answers c.answer_done.ensures,
   lists_later c.self.inside.world.tables c.set-done.new.self.tables c.set-done.ensures.goes_on (entries_of c.self.inside.stored) c.self.invariant.1,
   c.self.invariant.2,
 )
 
 pub returns-clause-answers : goal.returns-clause-answers
 returns-clause-answers g c =
-    answer_left _ c.args.self.now c.self.view_is c.has_events.result c.has_events.ensures c.self.invariant.0 c.if-has_events.false c.set-done.new.self (SetValue c.args.entity c.args.id c.args.values.now) c.keeps.ensures c.set-done.result c.answer.result c.answer.new.waiting c.set-done.ensures.answers c.answer.ensures
+    answer_left _ c.args.self.now c.self.view_is c.has_events.result c.has_events.ensures c.self.invariant.0 c.if-has_events.false c.set-done.new.self (SetValue c.args.entity c.args.id c.args.values.now) c.keeps.ensures c.set-done.result (none_born c.answer_done.result) c.answer_done.new.waiting c.set-done.ensures.answers c.answer_done.ensures
 
 pub returns-then-has_events-clause-goes_on : goal.returns-then-has_events-clause-goes_on
 returns-then-has_events-clause-goes_on g c = goes_on_same c.args.self.now.world.tables

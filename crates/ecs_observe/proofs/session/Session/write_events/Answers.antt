@@ -4,6 +4,8 @@ use Rattle.ecs_observe.specs.Parts.{held_of}
 use Rattle.ecs_model.specs.stored.Session.{events}
 use Rattle.ecs_model.specs.stored.Watches.{event_text}
 use Rattle.ecs_observe.specs.Standing.{Standing, session_of}
+use Rattle.ecs_print.specs.Stops.{StopsWithin}
+use Rattle.ecs_print.proofs.Stops.{on_err_anyway, stops_before}
 use Rattle.watch_concerns.specs.Since.{IsAfter}
 use Rattle.watch_stored.specs.Held.{WasNow}
 use Rattle.ecs_observe.proofs.EventEffects.{none_taken_for, none_waits_after, none_waits_told, put_told, retold_after, retold_lists, retold_session, searched_for, taken_for, told_waits}
@@ -70,4 +72,13 @@ returns-in_default-clause-written g c =
 pub returns-clause-written : goal.returns-clause-written
 returns-clause-written g c =
     let told = told_waits _ c.args.self.now c.self.view_is c.in-Some.changed c.begin.new.self.events.items c.tell_led.new.report.events.items c.in-Some.is c.begin.ensures.events c.in_ok-tell_led.ensures.told in
-    c.in_ok-write_all.ensures ∙ ap (λ es. c.args.output.now.items ++ flat_map event_text es) (c.as_slice.ensures.value ∙ told)
+    c.in_ok-write_all.ensures.written ∙ ap (λ es. c.args.output.now.items ++ flat_map event_text es) (c.as_slice.ensures.value ∙ told)
+
+-- where it stops in the midst
+pub returns-in_err-tell_led-clause-front : goal.returns-in_err-tell_led-clause-front
+returns-in_err-tell_led-clause-front g c = on_err_anyway _ (stops_before _ _)
+
+pub returns-in_err-write_all-clause-front : goal.returns-in_err-write_all-clause-front
+returns-in_err-write_all-clause-front g c =
+    let told = told_waits _ c.args.self.now c.self.view_is c.in-Some.changed c.begin.new.self.events.items c.tell_led.new.report.events.items c.in-Some.is c.begin.ensures.events c.in_ok-tell_led.ensures.told in
+    on_err_anyway _ (subst (λ es. StopsWithin c.args.output.now.items c.write_all.new.output.items (flat_map event_text es)) (c.as_slice.ensures.value ∙ told) c.in_err-write_all.ensures.front)

@@ -1,6 +1,7 @@
 use Rattle.std.proofs.Common.{sym}
 use Rattle.ecs_model.specs.References.{seen_reference}
-use Rattle.world_script.proofs.Orders.{IfOk-delete, IfOk-delete_unfound}
+use Rattle.ecs_observe.specs.Answers.{none_born}
+use Rattle.world_script.proofs.Orders.{IfOk-delete, IfOk-delete_unfound, tells_done}
 use Rattle.world_script.proofs.interpreters.Interpreter.run_delete.Goals as goal
 
 pub returns-in-Err : goal.returns-in-Err
@@ -11,4 +12,4 @@ returns-in-Err g c =
 pub returns-in-Ok : goal.returns-in-Ok
 returns-in-Ok g c =
     IfOk-delete c.tell_answer.result c.args.self.now.session c.delete-answer.new.self c.tell_answer.new.self.session c.args.self.now.number c.args.self.now.output.items c.tell_answer.new.self.output.items
-    c.delete-answer.result c.world.result.now (seen_reference c.args.entity) c.in-Ok.found c.world.ensures (sym c.in-Ok.ensures.value) c.delete-answer.ensures.answers c.tell_answer.ensures
+    (none_born c.delete-answer.result) c.world.result.now (seen_reference c.args.entity) c.in-Ok.found c.world.ensures (sym c.in-Ok.ensures.value) c.delete-answer.ensures.answers (tells_done c.tell_answer.result c.delete-answer.result c.args.self.now.number _ _ c.args.self.now.output.items c.tell_answer.new.self.output.items c.tell_answer.ensures)
