@@ -3,8 +3,8 @@
 
 In PAGES a block that begins with ```flecsq is a script, and the block after it, which begins with ```output, is what it prints. A block of
 no kind is wrong, so that no script is left out. examples/NAME.flecsq prints examples/NAME.output. Each block under `## By example` of a crate's
-README is code of the source file to which the line above it links, word for word: how far it is indented doesn't matter, and a line `// ..`
-stands for lines that are left out.
+README, and under `## A first program` of docs/LIBRARY.md, stands in the file to which the line above it links, word for word: how far it is indented
+doesn't matter, and a line `// ..` stands for lines that are left out.
 """
 import glob
 import os
@@ -16,8 +16,8 @@ import textwrap
 TOP = os.path.realpath(os.path.join(os.path.dirname(os.path.realpath(__file__)), ".."))
 PAGES = ("README.md", "docs/LANGUAGE.md", "docs/FLECS.md")
 BLOCK = re.compile(r"^```(\w*)\n(.*?)^```$", re.M | re.S)
-BY_EXAMPLE = re.compile(r"^## By example$.*?(?=^## |\Z)", re.M | re.S)
-SOURCE = re.compile(r"\]\(([^()]+\.rt)\)")
+SHOWN = re.compile(r"^## (?:By example|A first program)$.*?(?=^## |\Z)", re.M | re.S)
+SOURCE = re.compile(r"\]\(([^()]+(?:\.rt|/stdout))\)")
 CUT = re.compile(r"^ *// \.\.$", re.M)
 SECONDS = 60
 
@@ -54,11 +54,11 @@ def complaint_of(program, script, wanted):
 
 
 def shown_code():
-    """The code of READMEs: for each block its place, its text, and the source file to which the line above it links, None where it links to none."""
-    for path in sorted(glob.glob(os.path.join(TOP, "crates", "*", "README.md"))):
+    """The code of pages: for each block its place, its text, and the source file to which the line above it links, None where it links to none."""
+    for path in [*sorted(glob.glob(os.path.join(TOP, "crates", "*", "README.md"))), os.path.join(TOP, "docs", "LIBRARY.md")]:
         page = os.path.relpath(path, TOP)
         text = read(page)
-        for section in BY_EXAMPLE.finditer(text):
+        for section in SHOWN.finditer(text):
             for found in BLOCK.finditer(text, *section.span()):
                 above = SOURCE.search(text[section.start() : found.start()].rstrip().rsplit("\n", 1)[-1])
                 source = above and os.path.normpath(os.path.join(os.path.dirname(page), above[1]))
@@ -83,7 +83,7 @@ def missing_code(code, lines):
 
 
 def strange_code(code, source):
-    """What is wrong with the code of a README: nothing, where it stands in its source file."""
+    """What is wrong with the code of a page: nothing, where it stands in its source file."""
     if source is None or not os.path.isfile(os.path.join(TOP, source)):
         return "the line above it links to no source file"
     missing = missing_code(code, read(source).split("\n"))

@@ -1,6 +1,6 @@
 -- What the game reads of a row.
 use Rattle.std.specs.Prelude.{List, ℤ, Option, Some, None, get_or, slice_get}
-use Rattle.ecs_model.specs.rows.Rows.{Field, Unset, Shown, Row}
+use Rattle.flecsq_ecs.specs.Rows.{Field, Unset, Shown, Row}
 
 -- the first number of a field's value
 abbrev pub first_number : Field → Option ℤ

@@ -6,21 +6,18 @@
 #![tactic(auto)]
 
 ghost use Rattle.std.specs.Prelude.{◌≡◌, codes};
-ghost use Rattle.ecs_observe.specs.Answers.{AnswersRows};
-ghost use Rattle.ecs_observe.specs.Standing.{session_of};
+ghost use Rattle.flecsq_ecs.specs.Answers.{AnswersRows};
+ghost use Rattle.flecsq_ecs.specs.Standing.{session_of};
 ghost use Rattle.example_game.specs.Litres.{litres_in};
 
-use ecs_id::Id;
-use ecs_model::watches::StoredKind;
-use ecs_observe::{Event, Session, SessionError, write_event};
-use ecs_schema::{Kind, Schema, SchemaError};
-use query_chunks::{Chunk, Chunks, Column, has_chunks};
-use query_model::faults::QueryFault;
+use flecsq_ecs::{
+    Asked, Chunk, Chunks, Column, Event, Id, Kind, QueryFault, Rows, Schema, SchemaError, Session,
+    SessionError, StoredKind, WorldView, has_chunks, write_event,
+};
 use std::alloc::{AllocError, Global};
 use std::hash::RandomState;
 use std::io::{self, Write};
 use thiserror::Error;
-use world_rows::{Asked, Rows, WorldView};
 
 /// The first two indexes that are given out.
 const FUEL: u32 = 64;
@@ -51,10 +48,9 @@ fn begin(alloc: Global, session: &mut Session) -> Result<(), GameError> {
     session.component("Fuel", litres)?;
     session.entity("Docked")?;
     for name in &SHIPS {
-        if let Some(ship) = session.entity(name)? {
-            session.set(ship, Id::plain(FUEL), &[40])?;
-            session.add(ship, Id::plain(DOCKED))?;
-        }
+        let ship = session.entity(name)?;
+        session.set(ship, Id::plain(FUEL), &[40])?;
+        session.add(ship, Id::plain(DOCKED))?;
     }
     session.store(StoredKind::Kept, "docked", "Docked, Fuel")?;
     session.store(StoredKind::Monitor, "at_sea", "Fuel, !Docked")?;
