@@ -1,8 +1,8 @@
 -- The items of a query by number, as the code finds them.
-use Rattle.std.specs.Prelude.{ℕ, ◌+◌, ◌-◌, ◌==◌, List, [], ◌∷◌, drop, Option, Some, None, if◌then◌else◌}
+use Rattle.std.specs.Prelude.{ℕ, ◌+◌, ◌-◌, ◌==◌, Bool, false, List, [], ◌∷◌, drop, Option, Some, None, if◌then◌else◌}
 use Rattle.std.proofs.Common.{Bor, get_or}
 use Rattle.query_model.specs.Levels.{Path, level_of}
-use Rattle.query_model.specs.Query.{Item, equal, Piece, item, opening, closing}
+use Rattle.query_model.specs.Query.{Item, equal, Piece, item, opening, closing, CheckedEntry, simple, group, is_shown}
 use Rattle.query_check.specs.Seen.{seen_piece}
 use Rattle.query_check.specs.declared.query.Piece as code
 use Rattle.query_check.specs.declared.numbered.EntryKind.{EntryKind}
@@ -37,3 +37,8 @@ level_around all level = if level == 0 then 0 else (get_or all (level - 1) nowhe
 abbrev pub piece_or : {A : Type 0} → Option (Bor (code.Piece A)) → Piece
 piece_or None = closing
 piece_or (Some p) = seen_piece p.now
+
+-- whether each row has a field for an item: one outside all groups that is shown
+abbrev pub is_shown_entry : CheckedEntry → Bool
+is_shown_entry (simple level i) = if level == 0 then is_shown i else false
+is_shown_entry (group level from_term own) = false

@@ -2,7 +2,7 @@
 
 ghost use Rattle.std.specs.Prelude.{◌≡◌, ◌<◌, ◌≤◌, [], map, length, IfOk};
 ghost use Rattle.query_check.specs.Seen.{entry_of, seen_entry, seen_item, seen_piece};
-ghost use Rattle.query_check.specs.Numbered.{item_kind, level_around, piece_or, places_from};
+ghost use Rattle.query_check.specs.Numbered.{is_shown_entry, item_kind, level_around, piece_or, places_from};
 
 use crate::query::{Item, Piece};
 use std::alloc::{AllocError, Allocator, Global};
@@ -15,6 +15,18 @@ pub enum Entry<'q, A: Allocator = Global> {
     Item(usize, &'q Item<A>),
     /// A negated group, in this level: whether it was written as one term, and the numbers of its own variables.
     Group(usize, bool, &'q [usize]),
+}
+
+impl<A: Allocator> Entry<'_, A> {
+    /// Whether each row has a field for it: a term that must or may match, or alternatives, outside all groups.
+    pub fn is_shown(&self) -> bool
+        ensures { result ≡ is_shown_entry (seen_entry self.now) }
+    {
+        match self {
+            Entry::Item(0, Item::And(_) | Item::Optional(_) | Item::Or(_)) => true,
+            _ => false,
+        }
+    }
 }
 
 /// Of what kind an item is, where its piece needn't be looked at.

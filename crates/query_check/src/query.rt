@@ -194,6 +194,13 @@ impl<A: Allocator> Query<A> {
         entry_in(at.level, self.pieces.get(at.piece))
     }
 
+    /// How many bytes its text has.
+    pub fn length(&self) -> usize
+        ensures { result ≡ (self.now).length }
+    {
+        self.length
+    }
+
     /// The terms in the order of the text, those of alternatives and those inside groups too.
     pub fn terms(&self) -> &[Term]
         ensures { result.now ≡ terms self.now }
