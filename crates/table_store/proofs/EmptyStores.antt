@@ -1,12 +1,12 @@
 -- A store without tables.
-use Rattle.std.proofs.Common.{◌≡◌, ℕ, suc, zero, Bool, false, List, [], Option, Some, None, IsSome, IfSome, is_some, slice_index_or, slice_get, refl, sym, ap, subst, ◌∙◌, true≢false, arith}
+use Rattle.std.proofs.Common.{◌≡◌, ℕ, suc, zero, Bool, false, List, [], Option, Some, None, IsSome, IfSome, is_some, option_map, slice_index_or, slice_get, refl, sym, ap, subst, ◌∙◌, true≢false, arith}
 use Rattle.std.specs.List.Sorted.{IsStrictlySortedBy}
 use Rattle.std.specs.declared.vec.Vec.{Vec}
 use Rattle.slab.specs.Slab as slots
 use Rattle.slab.specs.Slab.{Slab}
 use Rattle.ecs_id.specs.declared.TableKey.{TableKey}
 use Rattle.table_store.specs.Store.{Store, shape_at, table_at}
-use Rattle.table_store.specs.Kept.{AreMarked, ByIds, Held, is_filled, store_of, standing, tables_from, IsKept, IsOrder, IsSlot}
+use Rattle.table_store.specs.Kept.{AreInTurn, AreMarked, ByIds, Held, is_filled, store_of, standing, tables_from, IsKept, IsOrder, IsSlot}
 use Rattle.table_store.proofs.Slots.{none_is_some, table_at-slots}
 use Rattle.table_store.proofs.TableCounts.{nothing_at}
 
@@ -43,6 +43,12 @@ module _ {Y : Type 0} (tables : Slab (Held Y)) (by_ids : ByIds Y) (by_serial : V
   empty_marked filled none = record {
     within = λ n h. absurd (true≢false (sym (sym (ap is_some (vacant n)) ∙ h)));
     told = λ n. ap (λ l. slice_index_or l n false) none ∙ nothing_at n false ∙ ap is_filled (sym (vacant n));
+  }
+
+  pub empty_turns : (in_turn : List Bool) → in_turn ≡ [] → AreInTurn tables in_turn
+  empty_turns in_turn none = record {
+    within = λ n h. absurd (true≢false (sym (sym (ap (λ o. is_some (option_map (λ (x : Held Y). x.value.serial) o)) (vacant n)) ∙ h)));
+    follow = λ n m next is. absurd (true≢false (sym is ∙ ap (λ l. slice_index_or l m false) none ∙ nothing_at m false));
   }
 
   pub empty_kept : IsKept tables by_ids by_serial 0

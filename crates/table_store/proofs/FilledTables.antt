@@ -1,5 +1,6 @@
 -- What the mark of a slot says of the table under a key.
-use Rattle.std.proofs.Common.{◌≡◌, ℕ, ◌<◌, Bool, true, false, List, [], ◌∷◌, map, arith, Option, None, Some, IfSome, MatchOption, length, nat_lt, option_map, unwrap_or, slice_index_or, refl, sym, ap, ◌∙◌}
+use Rattle.std.proofs.Common.{◌≡◌, ℕ, ◌+◌, ◌-◌, ◌<◌, ◌≤◌, IsSome, cond, Bool, true, false, List, [], ◌∷◌, map, arith, Option, None, Some, IfSome, MatchOption, length, nat_lt, option_map, unwrap_or, slice_index_or, refl, sym, ap, ◌∙◌}
+use Rattle.std.specs.Int.{bit_at}
 use Rattle.std.specs.Option.{option_map_or}
 use Rattle.slab.specs.Slab.{Slab}
 use Rattle.ecs_id.specs.declared.EntityId.{EntityId}
@@ -8,7 +9,7 @@ use Rattle.ecs_table.specs.Archetype.{Archetype}
 use Rattle.table_store.specs.Store.{Store, table_at}
 use Rattle.table_store.specs.Rows.{rows_in}
 use Rattle.table_store.specs.Kept.{AreMarked, Held, is_filled, store_of}
-use Rattle.table_store.proofs.Changes.{rows_here, the_slot}
+use Rattle.table_store.proofs.Changes.{rows_here, the_slot, there}
 use Rattle.table_store.proofs.Marks.{filled_more, not_filled}
 
 pub no_rows : (s : Store) (k : TableKey) → table_at s k ≡ None → rows_in s k ≡ 0
@@ -61,3 +62,13 @@ module _ {Y : Type 0} (tables : Slab (Held Y)) (last : ℕ) (s : Store) (view : 
       by : (o : Option Archetype) → table_at s k ≡ o → rows_in s k ≡ 0
       by None e = no_rows s k e
       by (Some t) e = rows_here s k t e ∙ not_filled t.entities (sym (mark_here t e) ∙ mark)
+
+  -- of some slots from one on, the bit of the table's
+  pub filled_bit : (bits slot : ℕ) → ((n : ℕ) → n < 64 → bit_at bits n ≡ cond (slice_index_or filled (slot + n) false) 1 0) → IsSome (table_at s k) → slot ≤ k.slot → k.slot < slot + 64
+      → bit_at bits (k.slot - slot) ≡ cond (nat_lt 0 (rows_in s k)) 1 0
+  filled_bit bits slot are is low high =
+      let t = there (table_at s k) is in
+      let at : slot + (k.slot - slot) ≡ k.slot = omega (arith, low) in
+      are (k.slot - slot) (omega (arith, low, high))
+      ∙ ap (λ n. cond (slice_index_or filled n false) 1 0) at
+      ∙ ap (λ b. cond b 1 0) (mark_here t.0 t.1 ∙ ap (nat_lt 0) (sym (rows_here s k t.0 t.1)))

@@ -1,3 +1,4 @@
+pub mod BitLists
 pub mod Changes
 pub mod TableCounts
 pub mod Indexes
@@ -17,4 +18,5 @@ pub mod Slots
 pub mod Steps
 pub mod StoreLemmas
 pub mod Tables
+pub mod Turns
 pub mod WholeColumns

@@ -28,9 +28,22 @@ pub not_filled : {X : Type 0} (xs : List X) → nat_lt 0 (length xs) ≡ false �
 not_filled [] h = refl
 not_filled (x ∷ xs) h = absurd (true≢false (sym (above_none (length xs)) ∙ h))
 
+has_rows : (n : ℕ) → 0 < n → nat_lt 0 n ≡ true
+has_rows zero h = absurd (omega (arith, h))
+has_rows (suc n) h = above_none n
+
+-- a row that isn't the first
+pub not_first : (n m : ℕ) → n ≡ m → (n == 0) ≡ false → 0 < m
+not_first zero m same h = absurd (true≢false h)
+not_first (suc n) m same h = omega (arith, same)
+
 pub filled_more : (n : ℕ) → nat_lt 0 n ≡ true → 0 < n
 filled_more zero h = absurd (true≢false (sym h))
 filled_more (suc n) h = omega arith
+
+-- the marks are these
+pub marked_as : {Y : Type 0} (tables : Slab (Held Y)) (was now : List Bool) → now ≡ was → AreMarked tables was → AreMarked tables now
+marked_as tables was now same marked = subst (AreMarked tables) (sym same) marked
 
 -- one slot is another
 module _ {Y : Type 0} (tables new : Slab (Held Y)) (n : ℕ) (o : Option (Held Y)) (u : Updates tables new n o) (filled : List Bool) (marked : AreMarked tables filled) where
@@ -67,6 +80,10 @@ module _ {Y : Type 0} (tables : Slab (Held Y)) (n : ℕ) (x : Held Y) (is : slot
 
   pub marked_written : (y : Held Y) (b : Bool) → b ≡ is_filled (Some y) → AreMarked (with_value tables n y) (set filled n b)
   marked_written y b told = marked_anew tables (with_value tables n y) n (Some y) (Updates-with_value tables n y (subst IsSome (sym is) refl)) filled marked slot_within b told
+
+  -- where it had rows, its mark says so already
+  pub filled_already : 0 < length x.value.table.entities → slice_index_or filled n false ≡ true
+  filled_already some = marked.told n ∙ ap is_filled is ∙ has_rows (length x.value.table.entities) some
 
   -- its rows stay
   pub marked_same : (y : Held Y) → y.value.table.entities ≡ x.value.table.entities → AreMarked (with_value tables n y) filled

@@ -1,6 +1,7 @@
 -- A row moves to another table of the store: its table comes out of its slot, gives up the row, and comes back.
 use Rattle.std.proofs.Common.{◌≡◌, ◌≢◌, ℕ, suc, zero, ◌+◌, ◌<◌, ◌==◌, ◌&&◌, Bool, true, false, cond, if◌then◌else◌, List, [], ◌∷◌, Option, Some, None, IsSome, is_some, length, nat_lt, set, option_map, option_and_then, slice_index_or, slice_set, fold, refl, sym, ap, subst, ◌∙◌, true≢false, arith}
 use Rattle.std.proofs.lemmas.Bool.Decides.{Decides-eqb}
+use Rattle.std.proofs.lemmas.List.{get_or-set_other, length-set}
 use Rattle.std.specs.declared.vec.Vec.{Vec}
 use Rattle.slab.specs.Slab as slots
 use Rattle.slab.specs.Slab.{Slab, Updates, with_value, slab_len}
@@ -15,10 +16,11 @@ use Rattle.table_store.specs.declared.store.TableSlot.{TableSlot}
 use Rattle.ecs_id.specs.TableKeys.{table_eq}
 use Rattle.table_store.specs.Store.{Shape, Store, changed_at, moved_at, shape_at, shape_of, table_at}
 use Rattle.table_store.specs.Rows.{IsStored, Row, carried, filler, gap_filled, last_place, moved_rows, removed_rows, row_at, row_of, same_place, with_row_at, without_row_at}
-use Rattle.table_store.specs.Kept.{AreMarked, ByIds, Held, store_of, IsKept}
-use Rattle.table_store.proofs.Marks.{marked_moved, pushed_fills}
+use Rattle.table_store.specs.Kept.{AreInTurn, AreMarked, ByIds, Held, store_of, IsKept}
+use Rattle.table_store.proofs.Marks.{filled_already, marked_moved, not_first, pushed_fills}
 use Rattle.table_store.proofs.Slots.{key_eq_false, one_some, same_key}
 use Rattle.table_store.proofs.StoreLemmas.{stored}
+use Rattle.table_store.proofs.Turns.{turns_updated}
 use Rattle.table_store.proofs.Changes.{IsKept-changed, changed, row_changed, row_here, shape_here, shapes, table_here, the_slot, written, written_kept, written_row, written_shapes}
 use Rattle.table_store.proofs.RowCalls.{removed_is, sound_here}
 
@@ -69,7 +71,7 @@ module _ {Y : Type 0} (tables out back : Slab (Held Y)) (last : ℕ) (s : Store)
   source_is = table_here tables last s view from src at_from x is_x
 
   module _ (z : Held Y) (is_z : slots.get out to.slot ≡ Some z) where
-    is_z0 : slots.get tables to.slot ≡ Some z
+    pub is_z0 : slots.get tables to.slot ≡ Some z
     is_z0 = sym (u1.others to.slot slots_differ) ∙ is_z
 
     pub target_is : z.value.table ≡ tgt
@@ -84,6 +86,17 @@ module _ {Y : Type 0} (tables out back : Slab (Held Y)) (last : ℕ) (s : Store)
     -- both slots have marks
     pub moved_within : (filled : List Bool) → AreMarked tables filled → (from.slot < length filled) × (to.slot < length filled)
     moved_within filled marked = (marked.within from.slot (subst IsSome (sym is_x) refl), marked.within to.slot (subst IsSome (sym is_z0) refl))
+
+    pub target_filled : (filled : List Bool) → AreMarked tables filled → (n : ℕ) → n ≡ length z.value.table.entities → (n == 0) ≡ false → slice_index_or filled to.slot false ≡ true
+    target_filled filled marked n is more = filled_already tables to.slot z is_z0 filled marked (not_first n (length z.value.table.entities) is more)
+
+    pub source_within : (filled : List Bool) → AreMarked tables filled → from.slot < length (set filled to.slot true)
+    source_within filled marked = subst (λ l. from.slot < l) (sym (length-set filled to.slot true)) (moved_within filled marked).0
+
+    pub source_filled : (filled : List Bool) → AreMarked tables filled → slice_index_or (set filled to.slot true) from.slot false ≡ true
+    source_filled filled marked =
+        get_or-set_other filled to.slot from.slot true false (λ e. slots_differ (sym e))
+        ∙ filled_already tables from.slot x is_x filled marked (subst (λ (v : Archetype). 0 < length v.entities) (sym source_is) (omega (arith, there)))
 
     pub sizes_alike : HaveOneSize (shape_of src) (shape_of tgt)
     sizes_alike i m n p q =
@@ -159,6 +172,10 @@ module _ {Y : Type 0} (tables out back : Slab (Held Y)) (last : ℕ) (s : Store)
       pub moved_marked : (filled : List Bool) → AreMarked tables filled → (b : Bool) → b ≡ nat_lt 0 (length xt.entities) → AreMarked back (set (set filled to.slot true) from.slot b)
       moved_marked filled marked b left = marked_moved tables out back filled marked from.slot to.slot slots_differ x1 z1 u1 (subst IsSome (sym is_z) refl) u2 (marked.within from.slot (subst IsSome (sym is_x) refl)) b left
           (pushed_fills dz.table.entities (entity_at dx.table row) ∙ ap (λ (v : Archetype). nat_lt 0 (length v.entities)) (sym own_came))
+
+      pub moved_turns : (in_turn : List Bool) → AreInTurn tables in_turn → AreInTurn back in_turn
+      moved_turns in_turn turns =
+          turns_updated mid back to.slot z z1 is_z1 u3 (ap (λ v. v.serial) lent_z) in_turn (turns_updated tables mid from.slot x x1 is_x mid_updates (ap (λ v. v.serial) lent_x) in_turn turns)
 
       pub moved_stored : IsStored (store_of back last)
       moved_stored = stored back by_ids by_serial last moved_kept (store_of back last) refl

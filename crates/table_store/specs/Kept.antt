@@ -1,5 +1,5 @@
 -- The fields of a store: slots of tables, the slot of the table of each list of ids, and the keys by serial.
-use Rattle.std.specs.Prelude.{◌≡◌, Bool, false, ◌↔◌, ℕ, suc, ◌+◌, ◌*◌, ◌≤◌, ◌==◌, cond, if◌then◌else◌, List, [], ◌∷◌, Option, Some, None, IsSome, IsNone, IfSome, is_some, length, map, ◌⊎◌, IfOk, OnErr, Result, max, ◌<◌, slice_index_or, nat_lt}
+use Rattle.std.specs.Prelude.{◌≡◌, Bool, false, ◌↔◌, ℕ, suc, ◌+◌, ◌*◌, ◌≤◌, ◌==◌, cond, if◌then◌else◌, List, [], ◌∷◌, Option, Some, None, IsSome, IsNone, IfSome, is_some, length, map, ◌⊎◌, IfOk, OnErr, Result, max, ◌<◌, slice_index_or, slice_set, option_map, true, nat_lt}
 use Rattle.std.specs.List.{Contains}
 use Rattle.std.specs.List.Sorted.{IsStrictlySortedBy}
 use Rattle.std.specs.Ordering.{nat_cmp}
@@ -13,6 +13,7 @@ use Rattle.ecs_table.specs.Archetype.{Archetype, IsSound}
 use Rattle.table_store.specs.declared.edges.Edges.{Edges}
 use Rattle.table_store.specs.declared.edges.Edges.TheVariants.{Empty, Few, Many, One}
 use Rattle.table_store.specs.declared.edges.Several.{Several}
+use Rattle.table_store.specs.declared.slot_marks.SlotMarks.{SlotMarks}
 use Rattle.table_store.specs.declared.store.TableSlot.{TableSlot}
 pub use Rattle.table_store.specs.ByIds.{Held}
 use Rattle.table_store.specs.ByIds.{HasSlot, ids_hash}
@@ -49,6 +50,41 @@ is_filled (Some x) = nat_lt 0 (length x.value.table.entities)
 pub record AreMarked {Y : Type 0} (tables : Slab (Held Y)) (filled : List Bool) : Type 0 where
   pub within : (n : ℕ) → IsSome (slots.get tables n) → n < length filled
   pub told : (n : ℕ) → slice_index_or filled n false ≡ is_filled (slots.get tables n)
+
+-- the serial of the table in a slot
+abbrev pub serial_at : {Y : Type 0} → Slab (Held Y) → ℕ → Option ℕ
+serial_at tables n = option_map (λ x. x.value.serial) (slots.get tables n)
+
+-- the second serial follows the first
+abbrev pub Follows : Option ℕ → Option ℕ → Type 0
+Follows None o = ⊥
+Follows (Some m) None = ⊥
+Follows (Some m) (Some n) = n ≡ m + 1
+
+-- a slot with a table has a bit, and the next one too; where a bit is set, the table in the slot has the serial that
+-- follows that of the table in the slot before
+pub record AreInTurn {Y : Type 0} (tables : Slab (Held Y)) (in_turn : List Bool) : Type 0 where
+  pub within : (n : ℕ) → IsSome (serial_at tables n) → n + 1 < length in_turn
+  pub follow : (n m : ℕ) → m ≡ n + 1 → slice_index_or in_turn m false ≡ true → Follows (serial_at tables n) (serial_at tables m)
+
+-- a slot has all marks that a table there is to have
+pub record HasMarks {Y : Type 0} (marks : SlotMarks Y) (n : ℕ) : Type 0 where
+  pub filled : n < length marks.filled
+  pub in_turn : n + 1 < length marks.in_turn
+
+-- there are more bits, none of which is set
+pub record IsLonger (old new : List Bool) : Type 0 where
+  pub longer : length old ≤ length new
+  pub same : (n : ℕ) → slice_index_or new n false ≡ slice_index_or old n false
+
+-- marks may have come, and each is as it was
+pub record HaveGrown {Y : Type 0} (old new : SlotMarks Y) : Type 0 where
+  pub filled : IsLonger old.filled new.filled
+  pub in_turn : IsLonger old.in_turn new.in_turn
+
+-- the bits where a table has come under the key: that of its slot may be set where its serial follows that before
+abbrev pub IsTurnNoted : {Y : Type 0} → Slab (Held Y) → TableKey → List Bool → List Bool → Type 0
+IsTurnNoted tables key old new = (new ≡ old) ⊎ ((new ≡ slice_set old key.slot true) × ((n : ℕ) → key.slot ≡ n + 1 → Follows (serial_at tables n) (Some key.serial)))
 
 -- where the first of some edges for an id leads, if there is one
 unfoldable pub edge_in : List (Id × TableKey) → Id → Option TableKey

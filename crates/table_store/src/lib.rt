@@ -32,6 +32,8 @@ mod edges;
 mod shape;
 mod since;
 mod sized;
+mod slot_bits;
+mod slot_marks;
 mod store;
 
 pub use since::Since;

@@ -2,7 +2,8 @@
 ghost use Rattle.std.specs.Prelude.{◌≡◌, ◌==◌, ◌↔◌, ◌<◌, ◌≤◌, ◌-◌, ◌+◌, ◌*◌, ◌^◌, ◌⊎◌, ◌≢◌, ◌++◌, ◌∷◌, MatchResult, ℕ};
 ghost use Rattle.std.specs.Prelude.{[], IfOk, OnOk, OnErr, IsOk, IsNone};
 ghost use Rattle.std.specs.Prelude.{IsSome, IfSome, MatchOption, None, Some, map, max, min, length, option_map};
-ghost use Rattle.std.specs.Prelude.{slice_get, slice_index_or, false, IsTrue};
+ghost use Rattle.std.specs.Prelude.{slice_get, nat_lt, if◌then◌else◌, IsTrue};
+ghost use Rattle.std.specs.Int.{bit_at};
 ghost use Rattle.std.specs.FinMap.{is_sorted};
 ghost use Rattle.std.specs.Ordering.{nat_cmp};
 ghost use Rattle.std.specs.List.{Contains, filter};
@@ -17,7 +18,7 @@ ghost use Rattle.table_store.specs.Store.{shape_at, shaped, size_in, table_at, w
 ghost use Rattle.table_store.specs.Store.{without_id};
 ghost use Rattle.table_store.specs.ByIds.{HasSlot, KeepsSlots};
 ghost use Rattle.table_store.specs.Kept.{HasNoEdge, IsMade, IsPut, IsWritten, edge_of, edges_of, is_held, standing};
-ghost use Rattle.table_store.specs.Kept.{stepped};
+ghost use Rattle.table_store.specs.Kept.{HasMarks, HaveGrown, stepped};
 ghost use Rattle.table_store.specs.Rows.{AreValues, IsStored, Row, filler, moved_rows, removed_rows, row_at, rows_in};
 ghost use Rattle.table_store.specs.Rows.{with_cell, with_column_at, with_row_at};
 ghost use Rattle.table_store.specs.Rows.{zero_cells};
@@ -27,6 +28,7 @@ use crate::edges::Edges;
 use crate::shape::{Sizes, are_tags, next_shape, push_sizes, set_ids};
 use crate::since::Since;
 use crate::sized::SizedId;
+use crate::slot_marks::SlotMarks;
 use ecs_id::{EntityId, Id, ListedKey, TableKey};
 use ecs_table::Table;
 use raw_column::Memory;
@@ -73,8 +75,7 @@ type BySerial<A> = Vec<ListedKey, A>;
 /// The tables of a world, one for each set of ids.
 pub struct TableStore<A: Allocator = Global> {
     tables: Slots<A>,
-    // for each slot, whether the table there has rows: where tables are gone through, most have none
-    filled: Vec<bool, A>,
+    marks: SlotMarks<A>,
     by_ids: ByIds<A>,
     by_serial: BySerial<A>,
     // the greatest serial that was given
@@ -92,7 +93,7 @@ impl<A: Allocator> Drop for TableStore<A> {
     fn drop(self) {
         let Self {
             tables: _,
-            filled: _,
+            marks: _,
             by_ids: _,
             by_serial: _,
             last: _,
@@ -107,13 +108,14 @@ impl<A: Allocator> Drop for TableStore<A> {
 
 impl<A: Allocator> Model for TableStore<A> {
     ghost use Rattle.table_store.specs.Store.{Store};
-    ghost use Rattle.table_store.specs.Kept.{store_of, AreMarked, IsKept};
+    ghost use Rattle.table_store.specs.Kept.{store_of, AreInTurn, AreMarked, IsKept};
 
     ghost Value = { Store };
 
     ghost view = { λ s. store_of s.tables s.last };
 
-    ghost invariant = { λ s. IsKept s.tables s.by_ids s.by_serial s.last × AreMarked s.tables s.filled.items };
+    ghost invariant = { λ s. IsKept s.tables s.by_ids s.by_serial s.last × AreMarked s.tables s.marks.filled
+        × AreInTurn s.tables s.marks.in_turn };
 }
 
 impl<A: Allocator + Copy> TableStore<A> {
@@ -127,7 +129,7 @@ impl<A: Allocator + Copy> TableStore<A> {
         let hashing = Hashing::new(random);
         TableStore {
             tables: Slab::new(alloc),
-            filled: Vec::new(alloc),
+            marks: SlotMarks::new(alloc),
             by_ids: ByIds::new(alloc, hashing),
             by_serial: Vec::new(alloc),
             last: 0,
@@ -200,7 +202,7 @@ impl<A: Allocator + Copy> TableStore<A> {
         let slot = prepare(
             self.alloc,
             &mut self.tables,
-            &mut self.filled,
+            &mut self.marks,
             &mut self.by_ids,
             &mut self.by_serial,
             key,
@@ -209,6 +211,7 @@ impl<A: Allocator + Copy> TableStore<A> {
             cells,
         )?;
         self.tables.insert_reserved(slot);
+        self.marks.note_turn(&self.tables, key);
         let given = key.key();
         self.last = given.serial;
         Ok(given)
@@ -376,7 +379,7 @@ fn next_key<A: Allocator>(tables: &Slots<A>, last: u128) -> Result<ListedKey, Me
 fn prepare<A: Allocator + Copy>(
     alloc: A,
     tables: &mut Slots<A>,
-    filled: &mut Vec<bool, A>,
+    marks: &mut SlotMarks<A>,
     by_ids: &mut ByIds<A>,
     by_serial: &mut BySerial<A>,
     key: ListedKey,
@@ -386,10 +389,10 @@ fn prepare<A: Allocator + Copy>(
 ) -> Result<Box<TableSlot<A>, A>, Memory>
     requires ids { ids.now ≡ map (λ c. c.0) cells.now }
     requires small { (j : ℕ) → IfSome (slice_get cells.now j) (λ c. c.1 ≤ 64) }
+    requires slot { key.slot < 2 ^ 32 - 1 }
     ensures tables { tables.new ≡ record tables.old { capacity = tables.new.capacity } }
-    ensures marked { OnOk result (key.slot < length filled.new.items) }
-    ensures longer { length filled.old.items ≤ length filled.new.items }
-    ensures marks { (n : ℕ) → slice_index_or filled.new.items n false ≡ slice_index_or filled.old.items n false }
+    ensures within { OnOk result (HasMarks marks.new key.slot) }
+    ensures marks { HaveGrown marks.old marks.new }
     ensures by_ids { KeepsSlots by_ids.old by_ids.new }
     ensures entered { OnOk result (HasSlot by_ids.new hash key.slot) }
     ensures by_serial { MatchResult result (λ _. by_serial.new.items ≡ by_serial.old.items ++ key ∷ [])
@@ -402,32 +405,9 @@ fn prepare<A: Allocator + Copy>(
 {
     let slot = new_slot(alloc, key.serial(), ids, cells)?;
     tables.reserve(1)?;
-    reach(filled, key.slot())?;
+    marks.reach(key.slot())?;
     enter(by_ids, by_serial, hash, key)?;
     Ok(slot)
-}
-
-// Makes sure that a slot has a mark. Slots that had none are marked as without rows.
-fn reach<A: Allocator>(filled: &mut Vec<bool, A>, slot: u32) -> Result<(), AllocError>
-    ensures within { OnOk result (slot < length filled.new.items) }
-    ensures longer { length filled.old.items ≤ length filled.new.items }
-    ensures same { (n : ℕ) → slice_index_or filled.new.items n false ≡ slice_index_or filled.old.items n false }
-{
-    let slot = slot as usize;
-    if filled.len() <= slot {
-        filled.resize(slot + 1, false)?;
-    }
-    Ok(())
-}
-
-// Whether the table in a slot has rows.
-fn is_marked(filled: &[bool], slot: u32) -> bool
-    ensures { result ≡ slice_index_or filled.now slot false }
-{
-    match filled.get(slot as usize) {
-        Some(mark) => *mark,
-        None => false,
-    }
 }
 
 // A slot with an empty table.
@@ -596,11 +576,33 @@ impl<A: Allocator> TableStore<A> {
         ensures filled { IfSome result (λ t. 0 < length (t.now).entities) }
         ensures whole { IsStored self.now }
     {
-        if is_marked(self.filled.as_slice(), key.slot) {
+        if self.marks.is_filled(key.slot) {
             self.get(key)
         } else {
             None
         }
+    }
+
+    /// Of the 64 slots from this one on, those in which a table has rows: a bit each, the lowest for the first.
+    pub fn filled_bits(&self, slot: u32) -> u64
+        ensures filled { (k : TableKey) → IsSome (table_at self.now k) → slot ≤ k.slot → k.slot < slot + 64
+            → bit_at result (k.slot - slot) ≡ (if nat_lt 0 (rows_in self.now k) then 1 else 0) }
+        ensures whole { IsStored self.now }
+    {
+        self.marks.filled_bits(slot)
+    }
+
+    /// Whether `width` tables stand whose slots and serials follow one another from this one on. It takes constant time.
+    /// That it is true where they stand isn't promised.
+    pub fn stand_in_turn(&self, first: TableKey, width: u32) -> bool
+        requires { width ≤ 64 }
+        ensures stand { IsTrue result → (n : ℕ) → n < width → IsSome (table_at self.now (record {
+          slot = first.slot + n;
+          serial = first.serial + n;
+        })) }
+        ensures whole { IsStored self.now }
+    {
+        self.marks.are_in_turn(first.slot, width) && stands(&self.tables, first)
     }
 
     /// A row at the end of a table, whose values are zeros. Answers its number.
@@ -623,7 +625,7 @@ impl<A: Allocator> TableStore<A> {
         let table = &mut self.tables[slot].table;
         let row = table.rows().len();
         table.append(entity);
-        self.filled[slot] = true;
+        self.marks.fill(key.slot, row == 0);
         row
     }
 
@@ -678,7 +680,7 @@ impl<A: Allocator> TableStore<A> {
         let slot = key.slot as usize;
         let table = &mut self.tables[slot].table;
         let stays_filled = 1 < table.rows().len();
-        self.filled[slot] = stays_filled;
+        self.marks.take_row(key.slot, stays_filled);
         table.remove_row(row)
     }
 
@@ -717,8 +719,8 @@ impl<A: Allocator> TableStore<A> {
         let moved = source.table.move_to(row, target);
         let stays_filled = !source.table.rows().is_empty();
         self.tables.insert_reserved(source);
-        self.filled[to.slot as usize] = true;
-        self.filled[from.slot as usize] = stays_filled;
+        self.marks.fill(to.slot, moved.0 == 0);
+        self.marks.take_row(from.slot, stays_filled);
         moved
     }
 
@@ -754,6 +756,7 @@ impl<A: Allocator> TableStore<A> {
             return;
         }
         let slot = self.tables.remove(key.slot as usize);
+        self.marks.forget_turn(key.slot);
         self.by_ids.remove(slot.table.ids(), key.slot);
         forget_released(&mut self.by_serial, &self.tables);
     }

@@ -2,11 +2,14 @@ use Rattle.std.proofs.Common.{◌<◌, ◌-◌, ◌==◌, Some, cond, length, na
 use Rattle.ecs_table.specs.Archetype.{Archetype, IsSound, with_row}
 use Rattle.ecs_table.proofs.Soundness.{sound_with_row}
 use Rattle.ecs_table.proofs.Rows.{shape_of_appended, row_of_appended, row_past}
+use Rattle.table_store.specs.declared.store.TableSlot.{TableSlot}
+use Rattle.table_store.specs.declared.slot_marks.SlotMarks.{SlotMarks}
 use Rattle.table_store.specs.Store.{table_at, shape_of}
 use Rattle.table_store.specs.Rows.{row_of, zero_cells}
 use Rattle.table_store.proofs.Slots.{one_some}
 use Rattle.table_store.proofs.Changes.{contains, with_room, lent_here, rows_here, room_here, row_here, shape_here, written, written_shapes, written_kept, written_one_row, written_room, written_stored}
-use Rattle.table_store.proofs.Marks.{marked_written, pushed_fills}
+use Rattle.table_store.proofs.Marks.{filled_already, marked_as, marked_written, not_first, pushed_fills, slot_within}
+use Rattle.table_store.proofs.Turns.{turns_as, turns_written}
 use Rattle.table_store.proofs.store.TableStore.append.Goals as goal
 
 pub index_mut-requires : goal.index_mut-requires
@@ -16,13 +19,24 @@ pub append-requires : goal.append-requires
 append-requires g c = let t = with_room (table_at c.args.self.now c.args.key) c.requires.room in
     subst (λ (v : Archetype). 0 < v.room) (sym (lent_here c.self.inside.tables c.self.inside.last c.args.self.now c.self.view_is c.args.key t.0 t.1 c.index_mut.result.now c.index_mut.ensures.value c.deref_mut.result.now c.deref_mut.ensures.value)) t.2
 
+pub fill-requires-clause-within : goal.fill-requires-clause-within
+fill-requires-clause-within g c = slot_within c.self.inside.tables c.args.key.slot c.index_mut.result.now c.index_mut.ensures.value c.self.inside.marks.filled c.self.invariant.1
+
+pub fill-requires-clause-filled : goal.fill-requires-clause-filled
+fill-requires-clause-filled g c = λ more.
+    filled_already c.self.inside.tables c.args.key.slot c.index_mut.result.now c.index_mut.ensures.value c.self.inside.marks.filled c.self.invariant.1
+    (not_first _ _ (ap length c.rows-row.ensures.value ∙ ap (λ (v : TableSlot _). length v.table.entities) c.deref_mut.ensures.value) more)
+
 pub invariant_of-self : goal.invariant_of-self
 invariant_of-self g c = let t = with_room (table_at c.args.self.now c.args.key) c.requires.room in
     let here = lent_here c.self.inside.tables c.self.inside.last c.args.self.now c.self.view_is c.args.key t.0 t.1 c.index_mut.result.now c.index_mut.ensures.value c.deref_mut.result.now c.deref_mut.ensures.value in
     let sound = subst IsSound here c.rows-row.ensures.sound in (
       written_kept c.self.inside.tables c.self.inside.last c.args.self.now c.self.view_is c.args.key t.0 t.1 c.index_mut.result.now c.index_mut.ensures.value c.deref_mut.result.now c.deref_mut.ensures.value c.append.new.self (λ v. with_row v c.args.entity) c.append.ensures c.self.inside.by_ids c.self.inside.by_serial c.self.invariant.0 (shape_of_appended t.0 c.args.entity) (sound_with_row t.0 c.args.entity sound),
-      marked_written c.self.inside.tables c.args.key.slot c.index_mut.result.now c.index_mut.ensures.value c.self.inside.filled.items c.self.invariant.1 _ true
-          (pushed_fills c.deref_mut.result.now.table.entities c.args.entity ∙ ap (λ (v : Archetype). nat_lt 0 (length v.entities)) (sym c.append.ensures)),
+      marked_as _ _ _ (ap (λ (m : SlotMarks _). m.filled) c.fill.ensures) (
+          marked_written c.self.inside.tables c.args.key.slot c.index_mut.result.now c.index_mut.ensures.value c.self.inside.marks.filled c.self.invariant.1 _ true
+          (pushed_fills c.deref_mut.result.now.table.entities c.args.entity ∙ ap (λ (v : Archetype). nat_lt 0 (length v.entities)) (sym c.append.ensures))),
+      turns_as _ _ _ (ap (λ (m : SlotMarks _). m.in_turn) c.fill.ensures) (
+          turns_written c.self.inside.tables c.args.key.slot c.index_mut.result.now c.index_mut.ensures.value c.self.inside.marks.in_turn c.self.invariant.2 _ (ap (λ (v : TableSlot _). v.serial) c.deref_mut.ensures.value)),
     )
 
 pub returns-clause-row : goal.returns-clause-row

@@ -1,16 +1,17 @@
 use Rattle.std.proofs.Common.{arith}
-use Rattle.std.proofs.Common.{◌≡◌, ◌≢◌, ◌<◌, List, ℕ, Ok, None, Some, false, length, map, sym, ap, subst, ◌∙◌, rules}
+use Rattle.std.proofs.Common.{◌≡◌, ◌≢◌, ◌+◌, ◌<◌, option_map, List, ℕ, Ok, None, Some, false, length, map, sym, ap, subst, ◌∙◌, rules}
 use Rattle.std.proofs.lemmas.Result.{err_from_is_err_and}
 use Rattle.slab.specs.Slab as slots
 use Rattle.slab.specs.Slab.{Slab}
 use Rattle.ecs_id.specs.Id.{Id}
 use Rattle.ecs_id.specs.declared.TableKey.{TableKey}
 use Rattle.ecs_table.specs.Archetype.{Archetype}
-use Rattle.table_store.specs.Kept.{IsKept, IsPut, store_of}
+use Rattle.table_store.specs.Kept.{AreMarked, Held, IsKept, IsPut, serial_at, store_of}
 use Rattle.table_store.specs.Store.{ids_at}
 use Rattle.table_store.specs.ByIds.{HasSlot, has_ids, ids_hash}
 use Rattle.table_store.proofs.Indexes.{some_held}
 use Rattle.table_store.proofs.Marks.{marked_grown, marked_made}
+use Rattle.table_store.proofs.Turns.{turns_grown, turns_made, turns_noted}
 use Rattle.table_store.proofs.FoundTables.{IsKept-grown, found_known, is_refused, is_kept, is_put, not_there, put_kept}
 use Rattle.table_store.proofs.store.TableStore.put_by.Goals as goal
 
@@ -42,11 +43,15 @@ prepare-requires-clause-ids g c = c.as_slice-ids.ensures.value ∙ c.in_ok-set_i
 pub prepare-requires-clause-small : goal.prepare-requires-clause-small
 prepare-requires-clause-small g c = c.requires.small
 
+pub prepare-requires-clause-slot : goal.prepare-requires-clause-slot
+prepare-requires-clause-slot g c = c.in_ok-key.ensures.numbered
+
 pub invariant_of-self : goal.invariant_of-self
 invariant_of-self g c = (
   IsKept-grown c.self.inside.tables c.prepare.new.tables c.self.inside.by_ids c.prepare.new.by_ids c.self.inside.by_serial c.prepare.new.by_serial c.self.inside.last
       (ap (λ (t : Slab _). t.slots) c.prepare.ensures.tables) c.prepare.ensures.by_ids c.in_err-slot.ensures.by_serial c.self.invariant.0,
-  marked_grown c.self.inside.tables c.prepare.new.tables (ap (λ (t : Slab _). t.slots) c.prepare.ensures.tables) c.self.inside.filled.items c.prepare.new.filled.items c.prepare.ensures.longer c.prepare.ensures.marks c.self.invariant.1,
+  marked_grown c.self.inside.tables c.prepare.new.tables (ap (λ (t : Slab _). t.slots) c.prepare.ensures.tables) c.self.inside.marks.filled c.prepare.new.marks.filled c.prepare.ensures.marks.filled.longer c.prepare.ensures.marks.filled.same c.self.invariant.1,
+  turns_grown c.self.inside.tables c.prepare.new.tables (ap (λ (t : Slab _). t.slots) c.prepare.ensures.tables) c.self.inside.marks.in_turn c.prepare.new.marks.in_turn c.prepare.ensures.marks.in_turn c.self.invariant.2,
 )
 
 pub returns-in_err-slot : goal.returns-in_err-slot
@@ -56,6 +61,9 @@ returns-in_err-slot g c = rw (err_from_is_err_and c.from_residual-in_err-slot.re
 
 pub insert_reserved-requires : goal.insert_reserved-requires
 insert_reserved-requires g c = c.in_ok-slot.ensures.slot
+
+pub note_turn-requires : goal.note_turn-requires
+note_turn-requires g c = omega (arith, c.in_ok-slot.ensures.within.in_turn)
 
 pub invariant_of-self-2 : goal.invariant_of-self-2
 invariant_of-self-2 g c =
@@ -74,9 +82,16 @@ invariant_of-self-2 g c =
           c.hash_of-hash.result (c.hash_of-hash.ensures ∙ ap (ids_hash c.self.inside.by_ids.hashing) ids) c.in_ok-slot.ensures.entered c.prepare.ensures.by_ids
           c.in_ok-slot.ensures.by_serial c.insert_reserved.ensures.len
           ),
-      marked_made c.prepare.new.tables c.insert_reserved.new.self c.insert_reserved.result c.in_ok-slot.slot free c.insert_reserved.ensures.updates (ap (λ (t : Archetype). length t.entities) c.in_ok-slot.ensures.table)
-          c.prepare.new.filled.items (subst (λ n. n < length c.prepare.new.filled.items) (sym at) c.in_ok-slot.ensures.marked)
-          (marked_grown c.self.inside.tables c.prepare.new.tables (ap (λ (t : Slab _). t.slots) c.prepare.ensures.tables) c.self.inside.filled.items c.prepare.new.filled.items c.prepare.ensures.longer c.prepare.ensures.marks c.self.invariant.1),
+      subst (AreMarked c.insert_reserved.new.self) (sym c.note_turn.ensures.filled) (
+          marked_made c.prepare.new.tables c.insert_reserved.new.self c.insert_reserved.result c.in_ok-slot.slot free c.insert_reserved.ensures.updates (ap (λ (t : Archetype). length t.entities) c.in_ok-slot.ensures.table)
+          c.prepare.new.marks.filled (subst (λ n. n < length c.prepare.new.marks.filled) (sym at) c.in_ok-slot.ensures.within.filled)
+          (marked_grown c.self.inside.tables c.prepare.new.tables (ap (λ (t : Slab _). t.slots) c.prepare.ensures.tables) c.self.inside.marks.filled c.prepare.new.marks.filled c.prepare.ensures.marks.filled.longer c.prepare.ensures.marks.filled.same c.self.invariant.1)),
+      turns_noted c.insert_reserved.new.self c.in_ok-key.key c.prepare.new.marks.in_turn c.note_turn.new.self.in_turn
+          (turns_made c.prepare.new.tables c.insert_reserved.new.self c.insert_reserved.result c.in_ok-slot.slot free c.insert_reserved.ensures.updates c.prepare.new.marks.in_turn (turns_grown c.self.inside.tables c.prepare.new.tables (ap (λ (t : Slab _). t.slots) c.prepare.ensures.tables) c.self.inside.marks.in_turn c.prepare.new.marks.in_turn c.prepare.ensures.marks.in_turn c.self.invariant.2)
+          (subst (λ n. n + 1 < length c.prepare.new.marks.in_turn) (sym at) c.in_ok-slot.ensures.within.in_turn))
+          (omega (arith, c.in_ok-slot.ensures.within.in_turn))
+          (ap (serial_at c.insert_reserved.new.self) (sym at) ∙ ap (option_map (λ (x : Held _). x.value.serial)) c.insert_reserved.ensures.updates.changed ∙ ap Some c.in_ok-slot.ensures.serial)
+          c.note_turn.ensures.noted,
     )
 
 pub returns : goal.returns

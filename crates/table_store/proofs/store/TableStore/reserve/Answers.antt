@@ -5,6 +5,7 @@ use Rattle.table_store.specs.declared.store.TableSlot.{TableSlot}
 use Rattle.table_store.specs.Store.{table_at}
 use Rattle.table_store.proofs.Changes.{contains, there, room_here, lent_here, written, written_kept, written_same, written_same_rows, written_shapes, written_stored}
 use Rattle.table_store.proofs.Marks.{marked_same}
+use Rattle.table_store.proofs.Turns.{turns_written}
 use Rattle.table_store.proofs.RowCalls.{if_err, if_ok, same_but_room, sound_here}
 use Rattle.table_store.proofs.store.TableStore.reserve.Goals as goal
 
@@ -17,8 +18,9 @@ invariant_of-self g c = let t = there (table_at c.args.self.now c.args.key) c.re
     let sound = sound_here c.self.inside.tables c.self.inside.last c.args.self.now c.self.view_is c.args.key t.0 t.1 x c.index_mut.ensures.value c.self.inside.by_ids c.self.inside.by_serial c.self.invariant.0 in (
       written_kept c.self.inside.tables c.self.inside.last c.args.self.now c.self.view_is c.args.key t.0 t.1 x c.index_mut.ensures.value c.deref_mut.result.now c.deref_mut.ensures.value c.reserve.new.self (λ v. record v { room = n })
           (same_but_room c.reserve.result c.deref_mut.result.now.table c.reserve.new.self _ c.reserve.ensures.ok c.reserve.ensures.err) c.self.inside.by_ids c.self.inside.by_serial c.self.invariant.0 refl (sound_with_room t.0 n sound),
-      marked_same c.self.inside.tables c.args.key.slot c.index_mut.result.now c.index_mut.ensures.value c.self.inside.filled.items c.self.invariant.1 _
+      marked_same c.self.inside.tables c.args.key.slot c.index_mut.result.now c.index_mut.ensures.value c.self.inside.marks.filled c.self.invariant.1 _
           (ap (λ (v : Archetype). v.entities) (same_but_room c.reserve.result c.deref_mut.result.now.table c.reserve.new.self _ c.reserve.ensures.ok c.reserve.ensures.err) ∙ ap (λ (v : TableSlot _). v.table.entities) c.deref_mut.ensures.value),
+      turns_written c.self.inside.tables c.args.key.slot c.index_mut.result.now c.index_mut.ensures.value c.self.inside.marks.in_turn c.self.invariant.2 _ (ap (λ (v : TableSlot _). v.serial) c.deref_mut.ensures.value),
     )
 
 pub returns-clause-tables : goal.returns-clause-tables

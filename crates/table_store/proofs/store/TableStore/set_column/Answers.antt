@@ -6,6 +6,7 @@ use Rattle.table_store.specs.declared.store.TableSlot.{TableSlot}
 use Rattle.table_store.specs.Rows.{row_at, with_column_at}
 use Rattle.table_store.proofs.Changes.{contains, lent_here, written, written_kept, written_shapes, written_stored}
 use Rattle.table_store.proofs.Marks.{marked_same}
+use Rattle.table_store.proofs.Turns.{turns_written}
 use Rattle.table_store.proofs.RowCalls.{ids_rise, sound_here}
 use Rattle.table_store.proofs.WholeColumns.{rows_set, sized_for, table_of_values, written_column}
 use Rattle.table_store.proofs.store.TableStore.set_column.Goals as goal
@@ -30,8 +31,9 @@ invariant_of-self g c =
     let sound = sound_here c.self.inside.tables c.self.inside.last c.args.self.now c.self.view_is c.args.key t.0 t.1 x c.index_mut.ensures.value c.self.inside.by_ids c.self.inside.by_serial c.self.invariant.0 in (
       written_kept c.self.inside.tables c.self.inside.last c.args.self.now c.self.view_is c.args.key t.0 t.1 x c.index_mut.ensures.value c.deref_mut.result.now c.deref_mut.ensures.value c.set_column.new.self (λ v. with_column v c.args.id c.args.bytes.now) c.set_column.ensures c.self.inside.by_ids c.self.inside.by_serial c.self.invariant.0
           (shape_of_column t.0 c.args.id c.args.bytes.now sound) (sound_with_column t.0 c.args.id c.args.bytes.now sized sound),
-      marked_same c.self.inside.tables c.args.key.slot c.index_mut.result.now c.index_mut.ensures.value c.self.inside.filled.items c.self.invariant.1 _
+      marked_same c.self.inside.tables c.args.key.slot c.index_mut.result.now c.index_mut.ensures.value c.self.inside.marks.filled c.self.invariant.1 _
           (ap (λ (v : Archetype). v.entities) c.set_column.ensures ∙ ap (λ (v : TableSlot _). v.table.entities) c.deref_mut.ensures.value),
+      turns_written c.self.inside.tables c.args.key.slot c.index_mut.result.now c.index_mut.ensures.value c.self.inside.marks.in_turn c.self.invariant.2 _ (ap (λ (v : TableSlot _). v.serial) c.deref_mut.ensures.value),
     )
 
 pub returns-clause-tables : goal.returns-clause-tables

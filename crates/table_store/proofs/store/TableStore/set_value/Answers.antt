@@ -5,6 +5,7 @@ use Rattle.table_store.specs.declared.store.TableSlot.{TableSlot}
 use Rattle.table_store.specs.Store.{shape_of, table_at}
 use Rattle.table_store.proofs.Changes.{contains, shape_here, lent_here, with_rows, written, written_kept, written_one_row, written_shapes, written_stored}
 use Rattle.table_store.proofs.Marks.{marked_same}
+use Rattle.table_store.proofs.Turns.{turns_written}
 use Rattle.table_store.proofs.RowCalls.{ids_rise, row_set, sound_here}
 use Rattle.table_store.proofs.store.TableStore.set_value.Goals as goal
 
@@ -26,8 +27,9 @@ invariant_of-self g c = let t = with_rows (table_at c.args.self.now c.args.key) 
     let sound = sound_here c.self.inside.tables c.self.inside.last c.args.self.now c.self.view_is c.args.key t.0 t.1 x c.index_mut.ensures.value c.self.inside.by_ids c.self.inside.by_serial c.self.invariant.0 in (
       written_kept c.self.inside.tables c.self.inside.last c.args.self.now c.self.view_is c.args.key t.0 t.1 x c.index_mut.ensures.value c.deref_mut.result.now c.deref_mut.ensures.value c.set_value.new.self (λ v. with_value v c.args.row c.args.id c.args.value.now) c.set_value.ensures c.self.inside.by_ids c.self.inside.by_serial c.self.invariant.0
           (shape_of_set t.0 c.args.row c.args.id c.args.value.now sound) (sound_with_value t.0 c.args.row c.args.id c.args.value.now t.2 sized sound),
-      marked_same c.self.inside.tables c.args.key.slot c.index_mut.result.now c.index_mut.ensures.value c.self.inside.filled.items c.self.invariant.1 _
+      marked_same c.self.inside.tables c.args.key.slot c.index_mut.result.now c.index_mut.ensures.value c.self.inside.marks.filled c.self.invariant.1 _
           (ap (λ (v : Archetype). v.entities) c.set_value.ensures ∙ ap (λ (v : TableSlot _). v.table.entities) c.deref_mut.ensures.value),
+      turns_written c.self.inside.tables c.args.key.slot c.index_mut.result.now c.index_mut.ensures.value c.self.inside.marks.in_turn c.self.invariant.2 _ (ap (λ (v : TableSlot _). v.serial) c.deref_mut.ensures.value),
     )
 
 pub returns-clause-tables : goal.returns-clause-tables
