@@ -1,20 +1,21 @@
 -- What the state of a world says of its parts.
-use Rattle.std.proofs.Common.{◌≡◌, ℕ, ◌≤◌, nat_le, ◌==◌, Bool, true, false, cond, not, ◌&&◌, ◌||◌, List, [], ◌∷◌, length, replicate, Option, Some, None, option_map, unwrap_or, is_some, if◌then◌else◌, IfSome, IsTrue, refl, sym, ap, subst, ◌∙◌, arith, true≢false}
+use Rattle.std.proofs.Common.{◌≡◌, ℕ, ◌≤◌, inl, inr, nat_le, ◌==◌, Bool, true, false, cond, not, ◌&&◌, ◌||◌, List, [], ◌∷◌, length, replicate, Option, Some, None, option_map, unwrap_or, is_some, if◌then◌else◌, IfSome, IsTrue, refl, sym, ap, subst, ◌∙◌, arith, true≢false}
 use Rattle.std.proofs.lemmas.Bool.Decides.{Decides-eqb, nat_tests}
 use Rattle.std.specs.FinMap.Entries.{is_some-find}
 use Rattle.std.specs.List.{list_all, list_any}
 use Rattle.std.specs.Option.{option_eq, option_map_or, option_or}
 use Rattle.std.specs.Ordering.{nat_cmp, eq_by_cmp}
 use Rattle.ecs_id.specs.declared.EntityId.{EntityId}
-use Rattle.ecs_id.specs.Id.{Id, plain, pair, mentioned, id_cmp, id_eq, id_eq_same}
+use Rattle.ecs_id.specs.Id.{Id, IsIndex, plain, pair, mentioned, id_cmp, id_eq, id_eq_same}
 use Rattle.ecs_model.specs.Map.{Map, IsMap, value_at, has_key, keys}
 use Rattle.ecs_model.specs.Schema.{Schema, zeros}
 use Rattle.ecs_model.specs.Bytes.{size_of, values_in}
 use Rattle.ecs_model.specs.steps.WellFormed.{IsWellFormed}
-use Rattle.ecs_model.specs.World.{WorldState, pair_is_tag, holds, value_of, ids_of, is_alive, type_of_id, name_of}
+use Rattle.ecs_model.specs.World.{WorldState, is_live, last_built_in, pair_is_tag, holds, value_of, ids_of, is_alive, type_of_id, name_of}
 use Rattle.ecs_model.proofs.Maps.{of_some, some_of, both_true}
 use Rattle.ecs_schema.proofs.UnwrittenBytes.{values_in-zeros}
 use Rattle.name_index.specs.Names.{Names}
+use Rattle.std.specs.FinMap as finite
 use Rattle.ecs_table.specs.Archetype.{Cells, Shape}
 use Rattle.ecs_archetypes.specs.Holdings.{AreHoldings, HoldAlike, Holdings, KeepsSizes, agrees, bytes_at, cells_at, entity_at, held_at, holds_id, is_settled, lives, sizes_of}
 use Rattle.ecs_archetypes.specs.Archetypes.{known_in}
@@ -111,6 +112,18 @@ module _ {parts : Parts} (world : IsWorld parts) where
 
   pub AreNamed-world : AreNamed names h.live
   AreNamed-world = record { in_order = (world.whole).live; one = world.one_to_one; named = λ n e g. generation_of (value_at nat_cmp h.live e.index) e.generation (world.named n e g) }
+
+  -- a live entity has an index that ids can have, and so has one with a name
+  index_of_live : (i : ℕ) → is_live w i ≡ true → IsIndex i
+  index_of_live i live =
+      elim (((world.sound).indexes).given_out i live) [
+        | inl built ↦ let parts = both_true (nat_le 1 i) (nat_le i last_built_in) built in (grind (arith, nat_tests), grind (arith, nat_tests))
+        | inr given ↦ (omega (arith, given.0), given.1)
+      ]
+
+  pub index_named : (n : List ℕ) (e : EntityId) → finite.get names n ≡ Some e → IsIndex e.index
+  index_named n e named =
+      index_of_live e.index (ap is_some (generation_of (value_at nat_cmp h.live e.index) e.generation (world.named n e named)))
 
   pub value_is : (e : ℕ) (i : Id) → value_of w e i ≡ option_map (value_in (type_of h schemas i)) (bytes_at h e i)
   value_is e i = find-facts (type_of h schemas) e i h.cells (world.whole).cells

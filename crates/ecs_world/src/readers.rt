@@ -4,6 +4,7 @@ ghost use Rattle.std.specs.Prelude.{◌≡◌, ◌<◌, ◌≤◌, IfSome, IsTru
 ghost use Rattle.std.specs.Prelude.{if◌then◌else◌};
 ghost use Rattle.std.specs.Option.{option_copied};
 ghost use Rattle.std.specs.Ordering.{nat_cmp};
+ghost use Rattle.ecs_id.specs.Id.{IsIndex};
 ghost use Rattle.ecs_model.specs.Bytes.{size_of, values_in};
 ghost use Rattle.ecs_model.specs.Map.{value_at};
 ghost use Rattle.ecs_model.specs.steps.WellFormed.{IsWellFormed};
@@ -50,10 +51,11 @@ impl<A: Allocator> World<A> {
         self.archetypes.live()
     }
 
-    /// The live entity of a name.
+    /// The live entity of a name. Its index is one that ids can have.
     pub fn find(&self, name: &str) -> Option<EntityId>
         ensures index { option_map (λ e. e.index) result ≡ named self.now.state name.now }
         ensures alive { IfSome result (λ e. IsTrue (is_alive self.now.state e)) }
+        ensures in_range { IfSome result (λ e. IsIndex e.index) }
     {
         self.names.find(name)
     }
