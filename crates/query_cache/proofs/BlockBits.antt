@@ -2,7 +2,7 @@
 use Rattle.std.specs.Prelude.{◌==◌, ◌&&◌, bit_and, bit_or, filter}
 use Rattle.std.specs.Int.{bit_at, bit_not}
 use Rattle.std.specs.List.{range_with_len}
-use Rattle.std.proofs.Common.{◌≡◌, ℕ, ◌+◌, ◌-◌, ◌*◌, ◌%◌, ◌^◌, ◌<◌, ◌≤◌, Bool, true, false, cond, List, [], ◌∷◌, ◌++◌, append-nil, append_assoc, map, sym, ap, ◌∙◌, inl, inr, arith, eq-eqb, refl, true≢false, w64}
+use Rattle.std.proofs.Common.{◌≡◌, ℕ, ◌+◌, ◌-◌, ◌*◌, ◌%◌, ◌^◌, ◌<◌, ◌≤◌, Bool, true, false, cond, List, [], ◌∷◌, ◌++◌, append-nil, map, sym, ap, ◌∙◌, inl, inr, arith, eq-eqb, refl, true≢false, w64}
 use Rattle.std.proofs.lemmas.Bool.{cases_lt}
 use Rattle.std.proofs.lemmas.List.{map-append}
 use Rattle.std.proofs.lemmas.List.Elements.{filter-append}
@@ -21,30 +21,6 @@ filter_mapped f q (x ∷ xs) =
       | true ↦ ap (λ ys. f x ∷ ys) (filter_mapped f q xs)
       | false ↦ filter_mapped f q xs
     ]
-
--- ---- the tables of the first bits of a block
-abbrev pub keys_up_to : Block → ℕ → List TableKey
-keys_up_to b n = map (key_at b) (filter (λ k. bit_at b.bits k == 1) (range_with_len 0 n))
-
-pub one_more : (b : Block) (n : ℕ) (had : Bool) (start found more : List TableKey) → had ≡ (bit_at b.bits n == 1) → found ≡ start ++ keys_up_to b n
-    → more ≡ found ++ cond had (key_at b n ∷ []) [] → more ≡ start ++ keys_up_to b (n + 1)
-one_more b n had start found more bit so is =
-    let p : ℕ → Bool = λ k. bit_at b.bits k == 1 in
-    let at : 0 + n ≡ n = omega arith in
-    let last : (c : Bool) → cond c (key_at b n ∷ []) [] ≡ map (key_at b) (cond c (n ∷ []) [])
-    = λ c. elim c as (λ c. cond c (key_at b n ∷ []) [] ≡ map (key_at b) (cond c (n ∷ []) [])) [ true ↦ refl | false ↦ refl ] in
-    is
-    ∙ ap (λ xs. xs ++ cond had (key_at b n ∷ []) []) so
-    ∙ append_assoc start (keys_up_to b n) (cond had (key_at b n ∷ []) [])
-    ∙ ap (λ xs. start ++ xs) (
-    ap (λ ys. keys_up_to b n ++ ys) (last had ∙ ap (λ c. map (key_at b) (cond c (n ∷ []) [])) bit ∙ ap (λ m. map (key_at b) (cond (p m) (m ∷ []) [])) (sym at))
-    ∙ sym (map-append (key_at b) (filter p (range_with_len 0 n)) (cond (p (0 + n)) ((0 + n) ∷ []) []))
-    ∙ ap (map (key_at b)) (sym (number_more p 0 n))
-    )
-
-pub all_of : (b : Block) (n : ℕ) → n ≡ b.width → keys_up_to b n ≡ keys_of b
-unfolding keys_of
-all_of b n same = ap (keys_up_to b) same
 
 -- ---- a bit that is set after all others
 module _ (b : Block) (is : IsBlock b) (n : ℕ) (low : b.width ≤ n) (small : n < 64) where

@@ -6,3 +6,5 @@ pub mod TakenTables
 pub mod PatternWalks
 pub mod BlockBits
 pub mod BlockTables
+pub mod FilledBlocks
+pub mod LowestBits

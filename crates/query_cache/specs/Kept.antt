@@ -1,5 +1,5 @@
 -- The list of the tables that a kept query is about, and when it fits a store.
-use Rattle.std.specs.Prelude.{◌≡◌, ◌↔◌, ◌⊎◌, ℕ, ◌+◌, ◌<◌, ◌≤◌, Bool, false, List, ◌++◌, map, length, is_some, max, IsTrue, IfOk, OnErr, OnOk, Result}
+use Rattle.std.specs.Prelude.{◌≡◌, ◌↔◌, ◌⊎◌, ℕ, ◌+◌, ◌<◌, ◌≤◌, Bool, false, List, ◌++◌, map, length, is_some, max, nat_lt, IsTrue, IfOk, OnErr, OnOk, Result}
 use Rattle.std.specs.List.{Contains, filter, list_all, list_any}
 use Rattle.std.specs.List.Sorted.{IsStrictlySortedBy}
 use Rattle.std.specs.Option.{option_map_or}
@@ -8,6 +8,7 @@ use Rattle.ecs_id.specs.Id.{Id}
 use Rattle.ecs_id.specs.declared.TableKey.{TableKey}
 use Rattle.id_pattern.specs.declared.Pattern.{Pattern}
 use Rattle.id_pattern.specs.Patterns.{matches}
+use Rattle.table_store.specs.Rows.{rows_in}
 use Rattle.table_store.specs.Store.{Store, IsStore, ids_at, table_at}
 
 -- what each cacheable item asks of the ids of a table, the tables that have it, the greatest serial synced, and how often a table was judged
@@ -31,6 +32,10 @@ is_kept patterns s k = option_map_or (suits patterns) (ids_at s k) false
 -- whether a table stands under the key
 abbrev pub stands : Store → TableKey → Bool
 stands s k = is_some (table_at s k)
+
+-- whether the table under the key has rows
+abbrev pub has_rows : Store → TableKey → Bool
+has_rows s k = nat_lt 0 (rows_in s k)
 
 -- the serials rise, so that no key stands twice
 abbrev pub IsRising : List TableKey → Type 0

@@ -3,7 +3,7 @@
 ghost use Rattle.std.specs.Prelude.{◌≡◌, ◌↔◌, ◌+◌, ◌++◌, ◌≤◌, [], min, IfOk, IsTrue, OnErr, OnOk};
 ghost use Rattle.std.specs.List.{Contains, filter};
 ghost use Rattle.ecs_id.specs.declared.TableKey.{TableKey};
-ghost use Rattle.query_cache.specs.Kept.{is_kept, Fits, IsRising, IsSynced, IsTakenIn, Judges, stands};
+ghost use Rattle.query_cache.specs.Kept.{has_rows, is_kept, Fits, IsRising, IsSynced, IsTakenIn, Judges, stands};
 ghost use Rattle.query_cache.specs.Patterns.{AreListed, patterns_of};
 ghost use Rattle.query_model.specs.Query as model;
 ghost use Rattle.table_store.specs.Store.{Store};
@@ -76,6 +76,23 @@ impl<A: Allocator> Kept<A> {
         ensures refused { OnErr result (tables.new.items ≡ tables.old.items) }
     {
         self.keys.push_onto(tables)
+    }
+
+    /// Appends those tables to a list that have rows, by rising serial. All tables of this list must stand, as they do
+    /// after `sync`.
+    ///
+    /// Where memory is refused, the list stays as it was.
+    pub fn push_filled<B: Allocator, C: Allocator>(
+        &self,
+        store: &TableStore<B>,
+        tables: &mut Vec<ListedKey, C>,
+    ) -> Result<(), AllocError>
+        requires stand { (k : TableKey) → Contains self.now.keys k → IsTrue (stands store.now k) }
+        ensures pushed { OnOk result (tables.new.items ≡ tables.old.items
+            ++ filter (has_rows store.now) self.now.keys) }
+        ensures refused { OnErr result (tables.new.items ≡ tables.old.items) }
+    {
+        self.keys.push_filled_onto(store, tables)
     }
 
     /// How many tables were judged so far. It stays at its greatest number.

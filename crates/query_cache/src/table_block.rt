@@ -1,8 +1,11 @@
 //! Tables whose serials and slots go side by side, a bit for each.
 
 ghost use Rattle.std.specs.Prelude.{◌≡◌, ◌<◌, ◌≤◌, ◌==◌, ◌++◌, ◌∷◌, [], IfSome, IsTrue, OnOk, filter, if◌then◌else◌};
-ghost use Rattle.std.specs.Prelude.{OnErr, is_some, length, take};
+ghost use Rattle.std.specs.Prelude.{◌+◌, IsSome, OnErr, is_some, length, take, true, ℕ};
 ghost use Rattle.std.specs.Int.{bit_at};
+ghost use Rattle.std.specs.List.{Contains};
+ghost use Rattle.ecs_id.specs.declared.TableKey.{TableKey};
+ghost use Rattle.query_cache.specs.Kept.{has_rows};
 ghost use Rattle.query_cache.specs.TableList.{IsBlock, key_at, keeps, keys_of};
 ghost use Rattle.table_store.specs.Store.{table_at};
 
@@ -27,6 +30,22 @@ impl<A: Allocator> Keep<'_, A> {
         match self {
             Keep::Standing(tables) => tables.get(key).is_some(),
             Keep::UpTo(serial) => key.serial <= *serial,
+        }
+    }
+
+    /// Whether it is known at once that `width` tables all stay whose slots and serials follow one another from this
+    /// one on.
+    #[inline(always)]
+    fn keeps_run(&self, first: TableKey, width: u32) -> bool
+        requires { width ≤ 64 }
+        ensures { IsTrue result → (n : ℕ) → n < width → keeps self.now (record {
+          slot = first.slot + n;
+          serial = first.serial + n;
+        }) ≡ true }
+    {
+        match self {
+            Keep::Standing(tables) => tables.stand_in_turn(first, width),
+            Keep::UpTo(_) => false,
         }
     }
 }
@@ -96,13 +115,16 @@ impl Block {
         ensures pushed { OnOk result (keys.new.items ≡ keys.old.items ++ keys_of self.now) }
         ensures front { OnErr result (take (length keys.old.items) keys.new.items ≡ keys.old.items) }
     {
-        for bit in 0..self.width {
+        let mut left = self.bits;
+        'bits: while left != 0 {
+            let bit = left.trailing_zeros();
             self.push_one(bit, keys)?;
+            left &= !(1u64 << bit);
         }
         Ok(())
     }
 
-    /// Appends the table of a bit to a list, if it is set.
+    /// Appends the table of a bit to a list.
     #[inline(always)]
     fn push_one<A: Allocator>(
         &self,
@@ -111,17 +133,37 @@ impl Block {
     ) -> Result<(), AllocError>
         requires block { IsBlock self.now }
         requires within { bit < self.now.width }
-        ensures pushed { OnOk result (keys.new.items ≡ keys.old.items ++ (if bit_at self.now.bits bit == 1
-            then key_at self.now bit ∷ [] else [])) }
+        ensures pushed { OnOk result (keys.new.items ≡ keys.old.items ++ key_at self.now bit ∷ []) }
         ensures refused { OnErr result (keys.new.items ≡ keys.old.items) }
     {
-        if self.bits >> bit & 1 == 1 {
-            let Some(key) = ListedKey::of(self.key_at(bit)) else {
-                return Err(AllocError);
-            };
-            keys.push(key)?;
-        }
+        let Some(key) = ListedKey::of(self.key_at(bit)) else {
+            return Err(AllocError);
+        };
+        keys.push(key)?;
         Ok(())
+    }
+
+    /// Appends those tables to a list that have rows. Where memory is refused, some may be after what was there.
+    pub(crate) fn push_filled_onto<A: Allocator, B: Allocator>(
+        &self,
+        store: &TableStore<B>,
+        keys: &mut Vec<ListedKey, A>,
+    ) -> Result<(), AllocError>
+        requires block { IsBlock self.now }
+        requires stand { (k : TableKey) → Contains (keys_of self.now) k → IsSome (table_at store.now k) }
+        ensures pushed { OnOk result (keys.new.items ≡ keys.old.items
+            ++ filter (has_rows store.now) (keys_of self.now)) }
+        ensures front { OnErr result (take (length keys.old.items) keys.new.items ≡ keys.old.items) }
+    {
+        let filled = Block {
+            bits: self.bits & store.filled_bits(self.slot),
+            ..*self
+        };
+        // of most blocks no table has rows
+        if filled.bits == 0 {
+            return Ok(());
+        }
+        filled.push_onto(keys)
     }
 
     /// Leaves those that are to stay.
@@ -130,6 +172,10 @@ impl Block {
         ensures keys { keys_of self.new ≡ filter (keeps keep.now) (keys_of self.old) }
         ensures block { IsBlock self.new }
     {
+        // mostly all stay
+        if keep.keeps_run(self.first(), self.width) {
+            return;
+        }
         let mut kept = self.bits;
         for bit in 0..self.width {
             if !keep.keeps(self.key_at(bit)) {
@@ -137,6 +183,18 @@ impl Block {
             }
         }
         self.bits = kept;
+    }
+
+    /// The first table, whether it is listed or not.
+    #[inline(always)]
+    fn first(&self) -> TableKey
+        ensures slot { result.slot ≡ self.now.slot }
+        ensures serial { result.serial ≡ self.now.serial }
+    {
+        TableKey {
+            slot: self.slot,
+            serial: self.serial,
+        }
     }
 
     /// The table of a bit.

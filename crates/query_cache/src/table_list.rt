@@ -1,12 +1,16 @@
 //! The list.
 
-ghost use Rattle.std.specs.Prelude.{◌≡◌, ◌++◌, ◌∷◌, [], All, OnErr, OnOk, filter, if◌then◌else◌, length};
+ghost use Rattle.std.specs.Prelude.{◌≡◌, ◌++◌, ◌∷◌, [], All, IsTrue, OnErr, OnOk, filter, if◌then◌else◌, length};
+ghost use Rattle.std.specs.List.{Contains};
+ghost use Rattle.ecs_id.specs.declared.TableKey.{TableKey};
+ghost use Rattle.query_cache.specs.Kept.{has_rows, stands};
 ghost use Rattle.query_cache.specs.TableList.{IsBlock, keeps, keys_in};
 
 use crate::table_block::{Block, Keep};
 use ecs_id::{ListedKey, TableKey};
 use std::alloc::{AllocError, Allocator, Global};
 use std::marker::Model;
+use table_store::TableStore;
 
 /// A list of tables. It takes 32 bytes for each 64 tables that were made one after another in new slots, and never more
 /// than 32 bytes a table.
@@ -68,6 +72,28 @@ impl<A: Allocator> TableList<A> {
         let before = keys.len();
         for block in &self.blocks {
             if block.push_onto(keys).is_err() {
+                keys.truncate(before);
+                return Err(AllocError);
+            }
+        }
+        Ok(())
+    }
+
+    /// Appends those tables to another list that have rows in a store, where all tables of this list stand.
+    ///
+    /// Where memory is refused, the other list stays as it was.
+    pub fn push_filled_onto<B: Allocator, C: Allocator>(
+        &self,
+        store: &TableStore<B>,
+        keys: &mut Vec<ListedKey, C>,
+    ) -> Result<(), AllocError>
+        requires stand { (k : TableKey) → Contains self.now.items k → IsTrue (stands store.now k) }
+        ensures pushed { OnOk result (keys.new.items ≡ keys.old.items ++ filter (has_rows store.now) self.now.items) }
+        ensures refused { OnErr result (keys.new.items ≡ keys.old.items) }
+    {
+        let before = keys.len();
+        for block in &self.blocks {
+            if block.push_filled_onto(store, keys).is_err() {
                 keys.truncate(before);
                 return Err(AllocError);
             }

@@ -1,8 +1,17 @@
 use Rattle.std.proofs.Common.{ap, arith, subst, sym, ◌≡◌, ◌+◌, ◌<◌, ◌∙◌}
 use Rattle.query_cache.specs.TableList.{keeps, key_at}
 use Rattle.query_cache.proofs.BlockBits.{AreLeft, begun, left_block, left_keys, one_goes, one_stays}
+use Rattle.query_cache.proofs.FilledBlocks.{all_stay}
 use Rattle.query_cache.proofs.table_block.Block.retain.Goals as goal
 use Rattle.query_cache.proofs.table_block.Block.retain.Goals.{else-not-keeps, then-not-keeps}
+
+pub returns-then-keeps_run-clause-keys : goal.returns-then-keeps_run-clause-keys
+returns-then-keeps_run-clause-keys g c =
+    let b = c.args.self.now in
+    let keep = keeps c.args.keep.now in
+    let slot = c.first.ensures.slot in
+    let serial = c.first.ensures.serial in
+    left_keys b keep b.bits (all_stay b keep (λ n low. ap keep (λ i. record { slot = sym slot i + n; serial = sym serial i + n }) ∙ c.keeps_run.ensures c.if-keeps_run.true n low))
 
 pub loop-bit-init : goal.loop-bit-init
 loop-bit-init g c = begun c.args.self.now (keeps c.args.keep.now)
