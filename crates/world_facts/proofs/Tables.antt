@@ -13,6 +13,7 @@ use Rattle.ecs_model.specs.stored.Tables.{lists_table}
 use Rattle.ecs_table.specs.Archetype.{Archetype}
 use Rattle.plan_steps.specs.Reading.{indexes}
 use Rattle.query_model.specs.Query.{Query}
+use Rattle.table_store.specs.Rows.{rows_in}
 use Rattle.table_store.specs.Store.{ids_at, table_at}
 use Rattle.world_facts.specs.Kept.{KeepsTables}
 use Rattle.world_facts.specs.Shown.{Shown}
@@ -34,11 +35,18 @@ lists_read : (q : Query) (table : Option Archetype) (e : ℕ) → Contains (inde
 lists_read q None e h = absurd (omega (arith, h.1))
 lists_read q (Some t) e h = refl
 
+-- and it has rows
+has_rows : (table : Option Archetype) (e : ℕ) → Contains (indexes (option_map_or (λ t. t.entities) table [])) e → 0 < unwrap_or (option_map (λ t. length t.entities) table) 0
+has_rows None e h = absurd (omega (arith, h.1))
+has_rows (Some t) e h = omega (arith, h.1, length-map t.entities (λ x. x.index))
+
 pub keeps_tables : (s : Shown) → ((s.links).housing).tables ≡ (s.world).tables → KeepsTables s
 keeps_tables s same q tables are = record {
   once = apart tables are.rising;
   exactly = λ k e stands.
-      let reads = lists_read q (table_at ((s.links).housing).tables k) e stands in
-      let listed = subst (λ store. Contains tables k ↔ IsTrue (option_map_or (lists_table q) (ids_at store k) false)) (sym same) (are.listed k) in
+      let table = table_at ((s.links).housing).tables k in
+      let filled = subst (λ store. 0 < rows_in store k) same (has_rows table e stands) in
+      let reads = lists_read q table e stands in
+      let listed = subst (λ store. Contains tables k ↔ IsTrue (option_map_or (lists_table q) (ids_at store k) false)) (sym same) (are.listed k filled) in
       subst (λ b. Contains tables k ↔ IsTrue b) reads listed;
 }
