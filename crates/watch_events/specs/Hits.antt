@@ -1,6 +1,7 @@
 -- Which stored queries may be notified of a command.
 use Rattle.std.specs.Prelude.{Bool, true, false, List}
 use Rattle.std.specs.List.{list_any}
+use Rattle.ecs_id.specs.Id.{Id}
 use Rattle.query_model.specs.Query.{Query}
 use Rattle.ecs_model.specs.declared.watches.StoredKind.{StoredKind}
 use Rattle.ecs_model.specs.declared.watches.StoredKind.TheVariants.{Kept, Monitor, OnAdd, OnRemove, OnSet}
@@ -19,3 +20,8 @@ may_tell c Monitor q = true
 may_tell c OnAdd q = any_matches q c.came
 may_tell c OnRemove q = any_matches q c.went
 may_tell c OnSet q = any_matches q c.written
+
+-- whether it may be notified where the value of a held id is set
+abbrev pub may_tell_set : Id → StoredKind → Query → Bool
+may_tell_set i OnSet q = matches_term q i
+may_tell_set i kind q = false

@@ -5,9 +5,11 @@ ghost use Rattle.std.specs.List.{list_any};
 ghost use Rattle.ecs_model.specs.World.{WorldState};
 ghost use Rattle.ecs_model.specs.rows.Rows.{matches};
 ghost use Rattle.watch_concerns.specs.Since.{told_since};
-ghost use Rattle.watch_events.specs.Hits.{any_matches, may_tell};
+ghost use Rattle.ecs_model.specs.stored.Watches.{matches_term};
+ghost use Rattle.watch_events.specs.Hits.{any_matches, may_tell, may_tell_set};
 
 use crate::terms::{matches, only_term};
+use ecs_id::Id;
 use ecs_model::FactKey;
 use ecs_model::watches::StoredKind;
 use ecs_world::Changes;
@@ -30,6 +32,27 @@ pub fn may_tell<A: Allocator>(kind: StoredKind, query: &Query<A>, changes: &Chan
         StoredKind::OnAdd => any_matches(query, changes.came()),
         StoredKind::OnRemove => any_matches(query, changes.went()),
         StoredKind::OnSet => any_matches(query, changes.written()),
+    }
+}
+
+/// Whether a stored query may be notified where the value of a held id is set: an observer of `set` whose term matches
+/// the id.
+pub fn may_tell_set<A: Allocator>(kind: StoredKind, query: &Query<A>, id: Id) -> bool
+    ensures { result ≡ may_tell_set id kind query.now }
+{
+    match kind {
+        StoredKind::OnSet => matches_id(query, id),
+        _ => false,
+    }
+}
+
+/// Whether an observer's term matches an id.
+fn matches_id<A: Allocator>(query: &Query<A>, id: Id) -> bool
+    ensures { result ≡ matches_term query.now id }
+{
+    match only_term(query) {
+        Some(term) => matches(term, id),
+        None => false,
     }
 }
 

@@ -13,6 +13,6 @@ mod text;
 mod texts;
 
 pub use event::{Event, write_event};
-pub use hits::may_tell;
+pub use hits::{may_tell, may_tell_set};
 pub use rows::{Moves, tell_moves};
 pub use telling::{Audience, tell};
