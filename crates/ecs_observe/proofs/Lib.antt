@@ -10,6 +10,7 @@ pub mod ChangedLists
 pub mod NewQueries
 pub mod CommandForms
 pub mod CreatedEntities
+pub mod FilledLists
 pub mod StoringAnswers
 pub mod PinnedCounts
 pub mod StayingRows

@@ -2,6 +2,7 @@
 use Rattle.std.specs.Prelude.{◌≡◌, ◌≢◌, ⊤, ℕ, List, length, max, ◌++◌, Option, Some, None, is_some, Result, Ok, Err, if◌then◌else◌}
 use Rattle.std.specs.List.{list_any}
 use Rattle.ecs_id.specs.declared.EntityId.{EntityId}
+use Rattle.ecs_id.specs.Id.{IsIndex}
 use Rattle.ecs_model.specs.steps.Outcomes.{Changed}
 use Rattle.ecs_model.specs.declared.faults.CommandError.{CommandError}
 use Rattle.ecs_model.specs.declared.faults.CommandError.TheVariants as world
@@ -47,6 +48,11 @@ AnswersApply (Err Memory) applied old new = session_of new ≡ session_of old
 abbrev pub born : Result EntityId SessionError → Result (Option EntityId) SessionError
 born (Ok entity) = Ok (Some entity)
 born (Err error) = Err error
+
+-- an entity was created, and its index is one that ids can have
+abbrev pub IsBorn : Option EntityId → Type 0
+IsBorn None = ⊥
+IsBorn (Some entity) = IsIndex entity.index
 
 abbrev pub none_born : {T : Type 0} → Result T SessionError → Result (Option EntityId) SessionError
 none_born (Ok _) = Ok None

@@ -2,9 +2,11 @@
 use Rattle.std.specs.Prelude.{◌≡◌, ℕ, ◌<◌, Bool, true, List, map, length, slice_index_or}
 use Rattle.std.specs.List.{All, Contains, count_by}
 use Rattle.std.specs.declared.string.String.{String}
+use Rattle.ecs_id.specs.Id.{Id}
 use Rattle.ecs_model.specs.steps.Outcomes.{Changed}
 use Rattle.ecs_model.specs.stored.Watches.{is_told}
 use Rattle.watch_touched.specs.Concerned.{has_births_or_deaths}
+use Rattle.watch_events.specs.Hits.{may_tell_set}
 use Rattle.watch_index.specs.Laws.{may_concern}
 use Rattle.watch_index.specs.Occasions.{occasions_of}
 use Rattle.watch_index.specs.WatchOrder.{Boxed, IsOpen, IsWatched, occasions_in}
@@ -28,6 +30,10 @@ IsFit b = occasions_in b ≡ occasions_of (b.value.value.value).kind ((b.value.v
 
 abbrev pub is_watch_in : {A : Type 0} → Boxed (StoredQuery A) A → Bool
 is_watch_in b = is_told (b.value.value.value).kind
+
+-- it may be notified where the value of a held id is set
+abbrev pub hears_set : {A : Type 0} → Id → Boxed (StoredQuery A) A → Bool
+hears_set i b = may_tell_set i (b.value.value.value).kind ((b.value.value.value).plan).query
 
 pub record IsStored {A : Type 0} (s : StoredQueries A) : Type 0 where
   pub watched : IsWatched s.all

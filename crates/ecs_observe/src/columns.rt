@@ -15,8 +15,9 @@ impl<A: Allocator> Session<A> {
     /// column of a chunk does.
     ///
     /// It does what one `set` for each of the entities in turn would do. So it is refused while events wait; while a
-    /// stored query is a monitor or an observer, which would have to be notified of each `set`; and where the world
-    /// refuses it. It looks nothing up for a row, and takes no memory.
+    /// stored query observes that values of this id are set, and would have to be notified of each; and where the world
+    /// refuses it. No other stored query is notified of anything, so no events wait. It looks nothing up for a row, and
+    /// takes no memory.
     pub fn set_column(&mut self, key: TableKey, id: Id, bytes: &[u8]) -> Result<(), SetColumnError>
         ensures set { OnOk result (IsColumnSetIn self.old key id bytes.now (session_of self.new)) }
         ensures judged { MatchResult result (λ _. set_column_error self.old key id (length bytes.now) ≡ None)
@@ -29,7 +30,7 @@ impl<A: Allocator> Session<A> {
         if self.has_events() {
             return Err(SetColumnError::EventsPending);
         }
-        if self.stored.has_watch() {
+        if self.stored.may_tell_set(id) {
             return Err(SetColumnError::Watched);
         }
         // What each `set` would begin with.

@@ -1,8 +1,9 @@
 //! The commands of the world.
 
-ghost use Rattle.std.specs.Prelude.{◌≡◌, IfOk, IsSome, None, map};
+ghost use Rattle.std.specs.Prelude.{◌≡◌, IfOk, None, map};
+ghost use Rattle.ecs_id.specs.Id.{IsIndex};
 ghost use Rattle.ecs_model.specs.steps.Step.{Add, Component, Delete, Entity, Fresh, Remove, SetValue};
-ghost use Rattle.ecs_observe.specs.Answers.{AnswersApply, AnswersCommand, born, carried_out, none_born};
+ghost use Rattle.ecs_observe.specs.Answers.{AnswersApply, AnswersCommand, IsBorn, born, carried_out, none_born};
 ghost use Rattle.ecs_observe.specs.Parts.{held_of};
 ghost use Rattle.ecs_observe.specs.Standing.{session_of};
 ghost use Rattle.ecs_observe.specs.Stored.{IsStored, entries_of};
@@ -17,12 +18,13 @@ use ecs_schema::Schema;
 use ecs_world::Changes;
 use std::alloc::Allocator;
 
-// A command that creates an entity answers it. Each is refused as `EventsPending` while events wait, and else as the
+// A command that creates an entity answers it; its index is one that ids can have, so `Id::of` takes it. Each is refused as `EventsPending` while events wait, and else as the
 // world refuses it. It leaves the lists of kept queries as they are, and each still fits the tables.
 impl<A: Allocator + Copy> Session<A> {
     /// Creates an entity without a name and without facts, and answers it.
     pub fn fresh(&mut self) -> Result<EntityId, SessionError>
         ensures answers { AnswersApply (born result) (carried_out (session_of self.old) (Fresh)) self.old self.new }
+        ensures index { IfOk result (λ entity. IsIndex entity.index) }
         ensures compared { (self.new).compared ≡ (self.old).compared }
         ensures lists { (self.new).stored ≡ (self.old).stored }
         ensures goes_on { TablesGoOn (self.old).world.tables (self.new).world.tables }
@@ -39,6 +41,7 @@ impl<A: Allocator + Copy> Session<A> {
     /// Creates an entity with a name and without facts, and answers it.
     pub fn entity(&mut self, name: &str) -> Result<EntityId, SessionError>
         ensures answers { AnswersApply (born result) (carried_out (session_of self.old) (Entity name.now)) self.old self.new }
+        ensures index { IfOk result (λ entity. IsIndex entity.index) }
         ensures compared { (self.new).compared ≡ (self.old).compared }
         ensures lists { (self.new).stored ≡ (self.old).stored }
         ensures goes_on { TablesGoOn (self.old).world.tables (self.new).world.tables }
@@ -56,6 +59,7 @@ impl<A: Allocator + Copy> Session<A> {
     pub fn component(&mut self, name: &str, schema: Schema<A>) -> Result<EntityId, SessionError>
         ensures answers { AnswersApply (born result) (carried_out (session_of self.old) (Component name.now schema)) self.old
             self.new }
+        ensures index { IfOk result (λ entity. IsIndex entity.index) }
         ensures compared { (self.new).compared ≡ (self.old).compared }
         ensures lists { (self.new).stored ≡ (self.old).stored }
         ensures goes_on { TablesGoOn (self.old).world.tables (self.new).world.tables }
@@ -164,8 +168,9 @@ fn answer_born<A: Allocator>(
     done: Result<Changes<A>, CommandError>,
 ) -> Result<EntityId, SessionError>
     requires stored { IsStored stored.now }
-    requires born { IfOk done (λ changed. IsSome changed.born) }
-    ensures { AnswersCommand (map held_of (entries_of stored.now)) waiting.old done (born result) waiting.new }
+    requires born { IfOk done (λ changed. IsBorn changed.born) }
+    ensures answers { AnswersCommand (map held_of (entries_of stored.now)) waiting.old done (born result) waiting.new }
+    ensures index { IfOk result (λ entity. IsIndex entity.index) }
 {
     let created = answer(stored, waiting, done)?;
     Ok(created.unwrap())

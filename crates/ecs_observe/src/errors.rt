@@ -21,8 +21,8 @@ pub enum SetColumnError {
     /// Events wait to be delivered.
     #[error("events wait to be delivered")]
     EventsPending,
-    /// A stored query is a monitor or an observer, which is notified of each command.
-    #[error("a stored query is notified of each command")]
+    /// A stored query observes that values of this id are set, and would have to be notified of each.
+    #[error("a stored query observes that values of this id are set")]
     Watched,
     /// The world refuses it.
     #[error("{0}")]

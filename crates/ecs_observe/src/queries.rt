@@ -11,14 +11,16 @@ ghost use Rattle.std.specs.String.{string_bytes};
 ghost use Rattle.ecs_model.specs.stored.Watches.{is_told};
 ghost use Rattle.ecs_observe.specs.Lists.{KeepLists};
 ghost use Rattle.ecs_observe.specs.Parts.{with_kept_at};
-ghost use Rattle.ecs_observe.specs.Stored.{AreLedTo, IsOpened, IsStored, entries_of, made_of};
+ghost use Rattle.ecs_observe.specs.Stored.{AreLedTo, IsOpened, IsStored, entries_of, hears_set, made_of};
 ghost use Rattle.ecs_observe.specs.Telling.{is_locally_at};
 ghost use Rattle.watch_index.specs.NameOrder.{IsPlaceOf, is_key};
 
+use ecs_id::Id;
 use ecs_world::Changes;
 use short_list::ShortNumbers;
 use std::alloc::{AllocError, Allocator};
 use std::hash::RandomState;
+use watch_events::may_tell_set;
 use watch_index::laws::whom_changes_concern_they_lead_to;
 use watch_index::{Boxed, Happened, WatchOrder, Watcher, occasions_of};
 use watch_stored::{RowsAfter, StoredQuery, is_told};
@@ -114,6 +116,24 @@ impl<A: Allocator> StoredQueries<A> {
         ensures { result ≡ list_any (λ query. is_told query.kind) (map (λ e. e.1) (entries_of self.now)) }
     {
         self.watches > 0
+    }
+
+    /// Whether one of them may be notified where the value of a held id is set.
+    pub(crate) fn may_tell_set(&self, id: Id) -> bool
+        requires stored { IsStored self.now }
+        ensures { result ≡ list_any (hears_set id) (made_of self.now) }
+    {
+        if !self.has_watch() {
+            return false;
+        }
+        let all = self.all.order.made.as_slice();
+        for made in all {
+            let query = &made.value.value;
+            if may_tell_set(query.kind, query.plan.query(), id) {
+                return true;
+            }
+        }
+        false
     }
 
     /// The stored query with a name.

@@ -9,7 +9,7 @@ use Rattle.query_meaning.specs.Names.{AreNamesLive}
 use Rattle.query_meaning.specs.Plan.{IsValidPlan}
 use Rattle.query_meaning.specs.Sound.{IsSound}
 use Rattle.query_model.specs.Query.{Query}
-use Rattle.world_facts.specs.Kept.{AreTablesOf}
+use Rattle.world_facts.specs.Kept.{AreFilledTablesOf}
 use Rattle.world_facts.specs.Shown.{reading_of}
 use Rattle.ecs_observe.proofs.kept.has_nobody.Goals as goal
 
@@ -31,8 +31,8 @@ returns-clause-none g c = λ e.
     (subst (λ (x : Query). AreNamesLive (view_of c.args.world.now.state) x) (sym c.query.ensures) c.requires.answerable.names) in
     let kept =
     c.keeps_tables.ensures q tables
-    (subst (λ (x : Standing). AreTablesOf q x.tables tables) (sym c.new-facts.ensures)
-    (subst (λ (x : Query). AreTablesOf x (c.args.world.now).tables tables) (sym c.query.ensures) c.requires.tables)) in
+    (subst (λ (x : Standing). AreFilledTablesOf q x.tables tables) (sym c.new-facts.ensures)
+    (subst (λ (x : Query). AreFilledTablesOf x (c.args.world.now).tables tables) (sym c.query.ensures) c.requires.tables)) in
     let found = and_from _ _ (sym c.begins_with_this.ensures ∙ c.if-not-begins_with_this.false) (sym c.are_empty.ensures ∙ e) in
     subst (λ (x : Query). answers (view_of c.args.world.now.state) x ≡ []) c.query.ensures
     (subst (λ (x : Standing). answers (view_of x.state) q ≡ []) c.new-facts.ensures

@@ -1,5 +1,5 @@
 -- A query without answers prints its count alone.
-use Rattle.std.proofs.Common.{[], ◌≤◌, append-nil, arith, length, refl, subst, sym, ◌∙◌}
+use Rattle.std.proofs.Common.{[], ◌≤◌, append-nil, arith, length, refl, subst, ◌∙◌}
 use Rattle.std.specs.Prelude.{codes, max}
 use Rattle.ecs_model.specs.rows.Text.{rows_text}
 use Rattle.ecs_model.specs.rows.View.{view_of}

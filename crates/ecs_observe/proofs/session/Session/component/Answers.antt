@@ -20,14 +20,14 @@ answer_born-requires-clause-born g c = component_made c.self.inside.world.state 
 
 pub invariant_of-self : goal.invariant_of-self
 invariant_of-self g c = (
-  session_left _ c.args.self.now c.self.view_is c.has_events.result c.has_events.ensures c.self.invariant.0 c.if-has_events.false c.component-done.new.self (Component c.args.name.now c.args.schema) c.keeps.ensures c.component-done.result (born c.answer_born.result) c.answer_born.new.waiting c.component-done.ensures.answers c.answer_born.ensures,
+  session_left _ c.args.self.now c.self.view_is c.has_events.result c.has_events.ensures c.self.invariant.0 c.if-has_events.false c.component-done.new.self (Component c.args.name.now c.args.schema) c.keeps.ensures c.component-done.result (born c.answer_born.result) c.answer_born.new.waiting c.component-done.ensures.answers c.answer_born.ensures.answers,
   lists_later c.self.inside.world.tables c.component-done.new.self.tables c.component-done.ensures.goes_on (entries_of c.self.inside.stored) c.self.invariant.1,
   c.self.invariant.2,
 )
 
 pub returns-clause-answers : goal.returns-clause-answers
 returns-clause-answers g c =
-    answer_left _ c.args.self.now c.self.view_is c.has_events.result c.has_events.ensures c.self.invariant.0 c.if-has_events.false c.component-done.new.self (Component c.args.name.now c.args.schema) c.keeps.ensures c.component-done.result (born c.answer_born.result) c.answer_born.new.waiting c.component-done.ensures.answers c.answer_born.ensures
+    answer_left _ c.args.self.now c.self.view_is c.has_events.result c.has_events.ensures c.self.invariant.0 c.if-has_events.false c.component-done.new.self (Component c.args.name.now c.args.schema) c.keeps.ensures c.component-done.result (born c.answer_born.result) c.answer_born.new.waiting c.component-done.ensures.answers c.answer_born.ensures.answers
 
 pub returns-then-has_events-clause-goes_on : goal.returns-then-has_events-clause-goes_on
 returns-then-has_events-clause-goes_on g c = goes_on_same c.args.self.now.world.tables
@@ -55,3 +55,6 @@ returns-clause-compared g c = grind arith
 
 pub returns-clause-lists : goal.returns-clause-lists
 returns-clause-lists g c = grind arith
+
+pub returns-clause-index : goal.returns-clause-index
+returns-clause-index g c = c.answer_born.ensures.index

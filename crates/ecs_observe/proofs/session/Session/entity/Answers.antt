@@ -19,14 +19,14 @@ answer_born-requires-clause-born g c = entity_made c.self.inside.world.state c.e
 
 pub invariant_of-self : goal.invariant_of-self
 invariant_of-self g c = (
-  session_left _ c.args.self.now c.self.view_is c.has_events.result c.has_events.ensures c.self.invariant.0 c.if-has_events.false c.entity-done.new.self (Entity c.args.name.now) c.keeps.ensures c.entity-done.result (born c.answer_born.result) c.answer_born.new.waiting c.entity-done.ensures.answers c.answer_born.ensures,
+  session_left _ c.args.self.now c.self.view_is c.has_events.result c.has_events.ensures c.self.invariant.0 c.if-has_events.false c.entity-done.new.self (Entity c.args.name.now) c.keeps.ensures c.entity-done.result (born c.answer_born.result) c.answer_born.new.waiting c.entity-done.ensures.answers c.answer_born.ensures.answers,
   lists_later c.self.inside.world.tables c.entity-done.new.self.tables c.entity-done.ensures.goes_on (entries_of c.self.inside.stored) c.self.invariant.1,
   c.self.invariant.2,
 )
 
 pub returns-clause-answers : goal.returns-clause-answers
 returns-clause-answers g c =
-    answer_left _ c.args.self.now c.self.view_is c.has_events.result c.has_events.ensures c.self.invariant.0 c.if-has_events.false c.entity-done.new.self (Entity c.args.name.now) c.keeps.ensures c.entity-done.result (born c.answer_born.result) c.answer_born.new.waiting c.entity-done.ensures.answers c.answer_born.ensures
+    answer_left _ c.args.self.now c.self.view_is c.has_events.result c.has_events.ensures c.self.invariant.0 c.if-has_events.false c.entity-done.new.self (Entity c.args.name.now) c.keeps.ensures c.entity-done.result (born c.answer_born.result) c.answer_born.new.waiting c.entity-done.ensures.answers c.answer_born.ensures.answers
 
 pub returns-then-has_events-clause-goes_on : goal.returns-then-has_events-clause-goes_on
 returns-then-has_events-clause-goes_on g c = goes_on_same c.args.self.now.world.tables
@@ -39,3 +39,6 @@ returns-clause-goes_on g c = subst (λ (s : Standing). TablesGoOn (s.world).tabl
 
 pub returns-clause-stay : goal.returns-clause-stay
 returns-clause-stay g c = subst (λ (s : Standing). NoneGo s.world c.entity-done.new.self) c.self.view_is c.entity-done.ensures.stay
+
+pub returns-clause-index : goal.returns-clause-index
+returns-clause-index g c = c.answer_born.ensures.index

@@ -19,14 +19,14 @@ answer_born-requires-clause-born g c = fresh_made c.self.inside.world.state c.fr
 
 pub invariant_of-self : goal.invariant_of-self
 invariant_of-self g c = (
-  session_left _ c.args.self.now c.self.view_is c.has_events.result c.has_events.ensures c.self.invariant.0 c.if-has_events.false c.fresh-done.new.self Fresh c.keeps.ensures c.fresh-done.result (born c.answer_born.result) c.answer_born.new.waiting c.fresh-done.ensures.answers c.answer_born.ensures,
+  session_left _ c.args.self.now c.self.view_is c.has_events.result c.has_events.ensures c.self.invariant.0 c.if-has_events.false c.fresh-done.new.self Fresh c.keeps.ensures c.fresh-done.result (born c.answer_born.result) c.answer_born.new.waiting c.fresh-done.ensures.answers c.answer_born.ensures.answers,
   lists_later c.self.inside.world.tables c.fresh-done.new.self.tables c.fresh-done.ensures.goes_on (entries_of c.self.inside.stored) c.self.invariant.1,
   c.self.invariant.2,
 )
 
 pub returns-clause-answers : goal.returns-clause-answers
 returns-clause-answers g c =
-    answer_left _ c.args.self.now c.self.view_is c.has_events.result c.has_events.ensures c.self.invariant.0 c.if-has_events.false c.fresh-done.new.self Fresh c.keeps.ensures c.fresh-done.result (born c.answer_born.result) c.answer_born.new.waiting c.fresh-done.ensures.answers c.answer_born.ensures
+    answer_left _ c.args.self.now c.self.view_is c.has_events.result c.has_events.ensures c.self.invariant.0 c.if-has_events.false c.fresh-done.new.self Fresh c.keeps.ensures c.fresh-done.result (born c.answer_born.result) c.answer_born.new.waiting c.fresh-done.ensures.answers c.answer_born.ensures.answers
 
 pub returns-then-has_events-clause-goes_on : goal.returns-then-has_events-clause-goes_on
 returns-then-has_events-clause-goes_on g c = goes_on_same c.args.self.now.world.tables
@@ -39,3 +39,6 @@ returns-clause-goes_on g c = subst (λ (s : Standing). TablesGoOn (s.world).tabl
 
 pub returns-clause-stay : goal.returns-clause-stay
 returns-clause-stay g c = subst (λ (s : Standing). NoneGo s.world c.fresh-done.new.self) c.self.view_is c.fresh-done.ensures.stay
+
+pub returns-clause-index : goal.returns-clause-index
+returns-clause-index g c = c.answer_born.ensures.index
