@@ -1,6 +1,7 @@
 //! Entities in twenty tables, gone through by chunks and by rows, with a value written or without, and as many in plain
 //! slices.
 
+use crate::asking::sum_by_asking;
 use crate::by_rows::{sum_by_rows, sum_of_first};
 use crate::commands::{Fault, add, fresh, set};
 use crate::is_asked;
@@ -29,7 +30,7 @@ const TEXT: &str = "Position, Velocity";
 const SEARCHED: &str = "Position, Velocity, !A(up)";
 
 /// The workloads.
-static NAMES: [&str; 11] = [
+static NAMES: [&str; 12] = [
     "ids",
     "values",
     "row_ids",
@@ -37,6 +38,7 @@ static NAMES: [&str; 11] = [
     "starts",
     "row_starts",
     "search_starts",
+    "asked",
     "written",
     "plain_ids",
     "plain_values",
@@ -309,6 +311,7 @@ fn sum_of_world(
         "starts" => sum_of_starts(alloc, world, times),
         "row_starts" => sum_of_row_starts(alloc, world, TEXT, times),
         "search_starts" => sum_of_row_starts(alloc, world, SEARCHED, times),
+        "asked" => sum_by_asking(alloc, world, TEXT, times),
         "row_ids" => sum_of_rows(alloc, world, false, times),
         "row_values" => sum_of_rows(alloc, world, true, times),
         _ => sum_of_chunks(alloc, world, name == "values", times),

@@ -1,8 +1,10 @@
 mod CurrentQueries
 mod GivenRows
+mod MatchedRows
 mod PulledRows
 mod RowRuns
 mod ShortestLists
+mod ThisVariables
 mod RunStarts
 mod ChunkRows
 mod TypedValues

@@ -2,6 +2,7 @@ pub mod Asked
 pub mod Coming
 pub mod Fields
 pub mod Found
+pub mod Matching
 pub mod Probes
 pub mod Starts
 pub mod Tabled

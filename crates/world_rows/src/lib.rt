@@ -1,4 +1,4 @@
-//! Rows of a query, one at a time.
+//! Rows of a query, one at a time, and whether an entity is in them.
 //!
 //! ```text
 //! let view = WorldView::new(&world);
@@ -16,12 +16,17 @@
 //! }
 //! // the room is for the next time: then no memory is taken
 //! let asked = rows.into_asked();
+//!
+//! // whether one entity is in the query, whatever other rows it has
+//! let mut matcher = asked.matcher(rt.alloc(), &view)?;
+//! let is_ship = matcher.matches(rt.alloc(), &view, heron)?;
 //! ```
 #![tactic(auto)]
 
 mod asked;
 mod columns;
 mod fields;
+mod matcher;
 mod rows;
 mod search_rows;
 mod table_rows;
@@ -30,5 +35,6 @@ mod way;
 
 pub use asked::Asked;
 pub use fields::{FactValue, Field};
+pub use matcher::{MatchError, Matcher};
 pub use rows::Rows;
 pub use view::WorldView;
