@@ -1,4 +1,5 @@
 pub mod AnswerWays
+pub mod CommandEvents
 pub mod Effects
 pub mod RunEnds
 pub mod Faults
@@ -7,5 +8,6 @@ pub mod KeptLines
 pub mod Orders
 pub mod ReadLines
 pub mod RunSteps
+pub mod Steps
 pub mod SentFronts
 pub mod WaitingEvents

@@ -33,7 +33,7 @@ pub waits-none : (s : Standing) → s.waiting ≡ None → (session_of s).waitin
 unfolding session_of
 waits-none s e = ap (option_map _) e
 
-none-waits : (s : Standing) → (session_of s).waiting ≡ None → s.waiting ≡ None
+pub none-waits : (s : Standing) → (session_of s).waiting ≡ None → s.waiting ≡ None
 unfolding session_of
 none-waits s e = none_made _ s.waiting e
 

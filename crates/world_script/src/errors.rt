@@ -1,4 +1,4 @@
-//! Why a script was not run to its end.
+//! Why a script was not run to its end, or a line not run.
 use script_streams::{Fault, FillError};
 use std::alloc::AllocError;
 use thiserror::Error;
@@ -19,6 +19,20 @@ pub enum RunError {
     /// The script has more than 16,777,216 bytes.
     #[error("script too long")]
     TooLong,
+}
+
+/// Why a stepper did not run a line.
+#[derive(Clone, Copy, Debug, PartialEq, Eq, Error)]
+pub enum StepError {
+    /// A line feed stands in the line.
+    #[error("line feed in a line")]
+    LineFeed,
+    /// Memory was refused, in this call or in one before.
+    #[error("out of memory")]
+    Memory,
+    /// 18,446,744,073,709,551,615 lines were run.
+    #[error("too many lines")]
+    TooManyLines,
 }
 
 impl From<AllocError> for RunError {

@@ -1,6 +1,5 @@
 //! Running one line, and counting it.
-ghost use Rattle.std.specs.Prelude.{◌≡◌, ◌≤◌, ◌++◌, None, OnErr, OnOk};
-ghost use Rattle.script_streams.specs.Lines.{most_bytes};
+ghost use Rattle.std.specs.Prelude.{◌≡◌, ◌<◌, ◌≤◌, ◌++◌, None, OnErr, OnOk};
 ghost use Rattle.script_streams.specs.Streams.{TakesFront};
 ghost use Rattle.world_query.specs.Sent.{FailsAtWrite, most_usize};
 ghost use Rattle.world_script.specs.Running.{RunsNext, next_effect};
@@ -29,7 +28,7 @@ impl<A: Allocator + Copy> Interpreter<A> {
         writer: &mut W,
     ) -> Result<(), SendError>
         requires none_wait { self.old.session.waiting ≡ None }
-        requires room { self.old.summary.lines ≤ most_bytes }
+        requires room { self.old.summary.lines < most_usize }
         requires few { self.old.summary.refused ≤ self.old.summary.lines }
         ensures ran { OnOk result (RunsNext line.now self.old self.new (W.contents writer.old)
             (W.contents writer.new)) }

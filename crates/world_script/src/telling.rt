@@ -130,7 +130,7 @@ pub(crate) fn tell_error<A: Allocator>(
 }
 
 /// Prints the events that wait, if any do. After that none wait.
-fn tell_events<A: Allocator + Copy>(
+pub(crate) fn tell_events<A: Allocator + Copy>(
     session: &mut Session<A>,
     output: &mut Vec<u8, A>,
 ) -> Result<(), AllocError>
