@@ -5,8 +5,9 @@ PREFIX ?= $(HOME)/.local
 BENCHMARK := crates/bench_library/out/bench_library
 SOURCES := crates.txt $(shell find crates -name out -prune -o -path '*/must-fail/*' -prune -o -type f \( -name '*.rt' -o -name '*.antt' \) -print)
 BUILD := python3 tools/build.py
+LIBRARY := python3 tools/library.py
 
-.PHONY: help run build proved install test gate demo edits bench check clean
+.PHONY: help run build library proved install test gate demo edits bench check clean
 
 .DEFAULT_GOAL := help
 
@@ -16,10 +17,11 @@ export PYTHONDONTWRITEBYTECODE := 1
 help:
 	@echo "make run [SCRIPT=FILE]       Runs a script. Without a proved program it builds one without proofs, in some minutes, once"
 	@echo "make build                   Builds that program, and tells where it stands"
+	@echo "make library                 Builds the library for C, C++ and Python, and tells where it stands. docs/C.md has its use"
 	@echo "make test                    All tests that need no proof, in minutes"
 	@echo "make demo                    Proves a small crate, makes a wrong change to a copy, and shows that and why it is refused"
-	@echo "make proved                  Proves and builds the program, in half an hour or more"
-	@echo "make install [PREFIX=FOLDER] Installs the proved program and its man page under FOLDER, ~/.local if left out; UNPROVED=1 for the other"
+	@echo "make proved                  Proves and builds the program and the library, in half an hour or more"
+	@echo "make install [PREFIX=FOLDER] Installs the proved program, its man page and the library under FOLDER, ~/.local if left out; UNPROVED=1 for others"
 	@echo "make gate                    Every proof from nothing, in an hour and a half or more, then all tests against the proved program"
 	@echo "make check                   Proves every crate, over what earlier runs kept"
 	@echo "make edits [SINCE=COMMIT]    Edits that the check must refuse, and why it refuses each; also CRATES=\"..\", TIER=.."
@@ -33,11 +35,16 @@ run:
 build:
 	@$(BUILD) build
 
+library:
+	@$(LIBRARY) build
+
 proved:
 	@$(BUILD) proved
+	@$(LIBRARY) proved
 
 install:
 	@$(BUILD) install "$(DESTDIR)$(PREFIX)"
+	@$(LIBRARY) install "$(DESTDIR)$(PREFIX)"
 
 # All tests that need no proof, against the proved program where it is up to date, else against one that is built without proofs.
 test:

@@ -7,7 +7,7 @@ import sys
 import tempfile
 
 TOP = os.path.realpath(os.path.join(os.path.dirname(os.path.realpath(__file__)), ".."))
-BUILD, TESTS = os.path.join(TOP, "tools", "build.py"), os.path.join(TOP, "tests", "run.py")
+BUILD, LIBRARY, TESTS = (os.path.join(TOP, *it) for it in (("tools", "build.py"), ("tools", "library.py"), ("tests", "run.py")))
 
 
 def said(path, *words):
@@ -36,7 +36,7 @@ def another_kit_is_told(room):
 
 def the_targets_are_listed(room):
     ran = subprocess.run(["make", "-C", TOP, "--no-print-directory", "help"], stdout=subprocess.PIPE, text=True, timeout=60, check=True)
-    return all(f"make {target} " in ran.stdout for target in ("run", "build", "test", "demo", "proved", "install", "gate", "check", "edits", "bench", "clean"))
+    return all(f"make {target} " in ran.stdout for target in ("run", "build", "library", "test", "demo", "proved", "install", "gate", "check", "edits", "bench", "clean"))
 
 
 def unknown_words_are_refused(room):
@@ -47,11 +47,14 @@ def unknown_words_are_refused(room):
 
 
 def nothing_unproved_is_installed(room):
-    """Without a proved program `install` installs nothing, and says how to get one. (On a copy of the tool, which has no program.)"""
+    """Without a proved program `install` installs nothing, and says how to get one; so too the library. (On a copy of the tools, which has neither.)"""
     os.makedirs(os.path.join(room, "tools"))
-    tool, place = shutil.copy(BUILD, os.path.join(room, "tools")), os.path.join(room, "there")
+    place = os.path.join(room, "there")
+    tool, of_library = (shutil.copy(it, os.path.join(room, "tools")) for it in (BUILD, LIBRARY))
     status, output, complaint = said(os.environ["PATH"], tool, "install", place)
-    return status == 2 and not output and "make proved" in complaint and "UNPROVED=1" in complaint and not os.path.exists(place)
+    is_told = status == 2 and not output and "make proved" in complaint and "UNPROVED=1" in complaint
+    status, output, complaint = said(os.environ["PATH"], of_library, "install", place)
+    return is_told and status == 0 and not output and "make proved" in complaint and not os.path.exists(place)
 
 
 CASES = [no_toolchain_is_told, another_kit_is_told, the_targets_are_listed, unknown_words_are_refused, nothing_unproved_is_installed]

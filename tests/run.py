@@ -12,6 +12,7 @@ import subprocess
 import sys
 import time
 
+import c_library
 import docs
 import first_run
 import layout
@@ -30,8 +31,18 @@ import build
 
 COUNTS = re.compile(r"(\d+) passed, (\d+) failed")
 
-# What the dearest check takes, with some to spare, in KB.
+# What the dearest check takes, with some to spare, and what two builds without proofs take at a time, in KB.
 ROOM_OF_A_CHECK = 5 * 1024 * 1024
+ROOM_OF_TWO_BUILDS = 5 * 1024 * 1024
+
+
+def free_memory():
+    """How much memory is free, in KB: 0 where nothing tells it."""
+    try:
+        with open("/proc/meminfo", encoding="ascii") as it:
+            return int(re.search(r"MemAvailable:\s+(\d+)", it.read())[1])
+    except (OSError, TypeError):
+        return 0
 
 
 def environment():
@@ -39,12 +50,7 @@ def environment():
     an estimate of their memory that is several times too high."""
     found = dict(os.environ)
     processors = len(os.sched_getaffinity(0))
-    try:
-        with open("/proc/meminfo", encoding="ascii") as it:
-            free = int(re.search(r"MemAvailable:\s+(\d+)", it.read())[1])
-    except (OSError, TypeError):
-        return found
-    if free >= processors * ROOM_OF_A_CHECK:
+    if free_memory() >= processors * ROOM_OF_A_CHECK:
         found.setdefault("RT_JOBS", str(processors))
     return found
 
@@ -92,6 +98,7 @@ def tests_of(built):
         ("scripts of pages", lambda: docs.run(built)),
         ("program from outside", lambda: program.run(built)),
         ("client over the pipe", lambda: pipe.run(built)),
+        ("library for C", c_library.run),
         ("queries made at random", lambda: orders.run(built)),
     ]
 
@@ -116,8 +123,18 @@ def tell_minutes(spent):
         print(f"minutes: {error!r}")
 
 
+def build_all():
+    """Builds the program and the library where they aren't up to date, side by side where there is memory for both, and returns the program.
+    Where the library can't be built, its own test says so."""
+    if free_memory() < ROOM_OF_TWO_BUILDS:
+        return build.program()
+    quiet = {"stdin": subprocess.DEVNULL, "stdout": subprocess.DEVNULL, "stderr": subprocess.DEVNULL}
+    with subprocess.Popen([sys.executable, os.path.join(TOP, "tools", "library.py"), "build"], **quiet):
+        return build.program()
+
+
 def test():
-    built = build.program()
+    built = build_all()
     build.tell_where(built)
     return run_tests(built)
 

@@ -112,12 +112,12 @@ def sources(crates):
                 yield from (os.path.join(place, it) for it in files if it.endswith((".rt", ".antt")))
 
 
-def is_current(program):
-    """Whether a program is there and younger than all that it is made from."""
-    if not os.path.isfile(program):
+def is_current(built, crate="flecsq"):
+    """Whether what is built of a crate is there and younger than all that it is made from."""
+    if not os.path.isfile(built):
         return False
-    built = os.stat(program).st_mtime
-    return all(os.stat(it).st_mtime <= built for it in sources(crates_below("flecsq")))
+    when = os.stat(built).st_mtime
+    return all(os.stat(it).st_mtime <= when for it in sources(crates_below(crate)))
 
 
 def prove_crate(crate, place, words):
@@ -144,15 +144,22 @@ def prove():
     check_toolchain()
     crates = crates_below("flecsq")
     tell(f"Proving flecsq, {len(crates)} steps. The first time this takes half an hour or more on four cores.")
+    status = prove_crates(crates, ["run", "--", "--version"])
+    if not status:
+        os.utime(PROVED)
+    return status
+
+
+def prove_crates(crates, last_words):
+    """Proves these crates one after the other, and runs `rt` with these words for the last."""
     for number, crate in enumerate(crates, 1):
         place, begun = f"{number} of {len(crates)}", time.monotonic()
-        words = ["lib"] if crate != crates[-1] else ["run", "--", "--version"]
+        words = ["lib"] if crate != crates[-1] else last_words
         status, last = prove_crate(crate, place, words)
         if status:
             tell(f"{last}{place} {crate}: not proved (rt ended with status {status})")
             return 1
         tell(f"{place} {crate}: proved ({time.monotonic() - begun:.0f} s)")
-    os.utime(PROVED)
     return 0
 
 
@@ -187,21 +194,25 @@ class Going:
 
 def build_unproved():
     """The program without proofs, built where it isn't up to date."""
-    if is_current(UNPROVED):
-        return UNPROVED
+    if not is_current(UNPROVED):
+        build_without_proofs("flecsq", "flecsq", UNPROVED)
+    return UNPROVED
+
+
+def build_without_proofs(crate, what, place):
+    """Builds a crate without proofs, and puts there what comes of it."""
     check_toolchain()
-    tell("Building flecsq without proofs: two to four minutes, once.")
-    os.makedirs(os.path.dirname(UNPROVED), exist_ok=True)
-    made = f"{UNPROVED}.{os.getpid()}"
+    tell(f"Building {what} without proofs: two to four minutes, once.")
+    os.makedirs(os.path.dirname(place), exist_ok=True)
+    made = f"{place}.{os.getpid()}"
     # (at level 2 it takes up to 1.6 times the proved program's instructions: what stands for its checks keeps calls out of line)
-    words = [sys.executable, os.path.join(TOP, "tools", "unproved.py"), "flecsq", made, "3"]
+    words = [sys.executable, os.path.join(TOP, "tools", "unproved.py"), crate, made, "3"]
     with Going("building"):
         ran = subprocess.run(words, stdout=subprocess.DEVNULL, check=False)
     if ran.returncode or not os.path.isfile(made):
         why = "as told above" if ran.returncode >= 0 else f"since signal {-ran.returncode} came, perhaps for want of memory"
-        raise Missing(f"flecsq could not be built, {why}.")
-    os.replace(made, UNPROVED)
-    return UNPROVED
+        raise Missing(f"{what} could not be built, {why}.")
+    os.replace(made, place)
 
 
 def program():
@@ -240,15 +251,19 @@ def install(folder):
         raise Missing(
             f"Nothing is installed: the proved program {why}. `make proved` proves and builds it; `make install UNPROVED=1` installs the one without proofs."
         )
-    for source, *below, mode in ((built, "bin", 0o755), (MAN_PAGE, "share", "man", "man1", 0o644)):
-        place = os.path.join(folder, *below)
-        os.makedirs(place, exist_ok=True)
-        made = os.path.join(place, os.path.basename(source))
-        shutil.copyfile(source, f"{made}.new")
-        os.chmod(f"{made}.new", mode)
-        os.replace(f"{made}.new", made)
-        tell(f"installed {made}{'' if built == PROVED or source != built else ', which is not proved'}")
+    install_file(built, os.path.join(folder, "bin"), 0o755, "" if built == PROVED else ", which is not proved")
+    install_file(MAN_PAGE, os.path.join(folder, "share", "man", "man1"), 0o644)
     return 0
+
+
+def install_file(source, place, mode, told=""):
+    """Puts a copy of a file into a folder, and tells so."""
+    os.makedirs(place, exist_ok=True)
+    made = os.path.join(place, os.path.basename(source))
+    shutil.copyfile(source, f"{made}.new")
+    os.chmod(f"{made}.new", mode)
+    os.replace(f"{made}.new", made)
+    tell(f"installed {made}{told}")
 
 
 def main(words):
@@ -259,12 +274,17 @@ def main(words):
         ("install", 2): lambda: install(words[1]),
         ("need", 1): check_toolchain,
     }
+    return run_command(__doc__, commands, words)
+
+
+def run_command(usage, commands, words):
+    """Runs the command that these words are, and answers the status."""
     if words in (["-h"], ["--help"]):
-        print(__doc__)
+        print(usage)
         return 0
     command = commands.get((words[0] if words else "", len(words)))
     if command is None:
-        tell(__doc__)
+        tell(usage)
         return 2
     try:
         return command() or 0
