@@ -19,11 +19,6 @@ use std::hash::RandomState;
 use std::io::{self, Write};
 use thiserror::Error;
 
-/// The first two indexes that are given out.
-const FUEL: u32 = 64;
-
-const DOCKED: u32 = 65;
-
 /// How often the game goes over its ships.
 const FRAMES: u32 = 60;
 
@@ -42,19 +37,26 @@ enum GameError {
     Memory(#[from(alloc)] AllocError),
 }
 
+/// What a ship holds.
+#[derive(Clone, Copy)]
+struct ShipIds {
+    fuel: Id,
+    docked: Id,
+}
+
 /// Three docked ships with 40 litres each, a query of those that are docked, and a monitor of those that aren't.
-fn begin(alloc: Global, session: &mut Session) -> Result<(), GameError> {
+fn begin(alloc: Global, session: &mut Session) -> Result<ShipIds, GameError> {
     let litres = Schema::new(alloc, &[("litres", Kind::U16)])?;
-    session.component("Fuel", litres)?;
-    session.entity("Docked")?;
+    let fuel = Id::of(session.component("Fuel", litres)?);
+    let docked = Id::of(session.entity("Docked")?);
     for name in &SHIPS {
         let ship = session.entity(name)?;
-        session.set(ship, Id::plain(FUEL), &[40])?;
-        session.add(ship, Id::plain(DOCKED))?;
+        session.set(ship, fuel, &[40])?;
+        session.add(ship, docked)?;
     }
     session.store(StoredKind::Kept, "docked", "Docked, Fuel")?;
     session.store(StoredKind::Monitor, "at_sea", "Fuel, !Docked")?;
-    Ok(())
+    Ok(ShipIds { fuel, docked })
 }
 
 fn write_events(told: &[Event], out: &mut Vec<u8>) -> Result<(), AllocError> {
@@ -75,14 +77,15 @@ fn tell_events(session: &mut Session, out: &mut Vec<u8>) -> Result<(), AllocErro
 /// A ship puts to sea, and has so many litres left.
 fn put_to_sea(
     session: &mut Session,
+    ids: ShipIds,
     name: &str,
     litres: i128,
     out: &mut Vec<u8>,
 ) -> Result<(), GameError> {
     if let Some(ship) = session.world().find(name) {
-        session.remove(ship, Id::plain(DOCKED))?;
+        session.remove(ship, ids.docked)?;
         tell_events(session, out)?;
-        session.set(ship, Id::plain(FUEL), &[litres])?;
+        session.set(ship, ids.fuel, &[litres])?;
         tell_events(session, out)?;
     }
     Ok(())
@@ -170,12 +173,12 @@ fn litres_in_frames(session: &Session, asked: &Asked) -> u64 {
 
 /// Two turns, with a ship that puts to sea between them, and at the end how many litres they counted.
 fn play(alloc: Global, session: &mut Session, out: &mut Vec<u8>) -> Result<(), GameError> {
-    begin(alloc, session)?;
+    let ids = begin(alloc, session)?;
     tell_events(session, out)?;
     show_docked(session, out)?;
     let fuel = Asked::new(alloc, &WorldView::new(session.world()), "Fuel")?;
     let (fuel, before) = litres_by_row(session, fuel);
-    let sailed = put_to_sea(session, "Petrel", 33, out);
+    let sailed = put_to_sea(session, ids, "Petrel", 33, out);
     let in_frames = litres_in_frames(session, &fuel);
     let (fuel, after) = litres_by_row(session, fuel);
     drop(fuel);

@@ -7,11 +7,6 @@ use std::hash::RandomState;
 use std::io::{self, Write};
 use thiserror::Error;
 
-/// The first two indexes that are given out.
-const FUEL: u32 = 64;
-
-const DOCKED: u32 = 65;
-
 #[derive(Clone, Copy, Debug, Error)]
 enum ShipError {
     #[error(transparent)]
@@ -25,24 +20,24 @@ enum ShipError {
 fn sail(alloc: Global, session: &mut Session, out: &mut Vec<u8>) -> Result<(), ShipError> {
     // A component has fields; a tag is an entity that others have.
     let litres = Schema::new(alloc, &[("litres", Kind::U16)])?;
-    session.component("Fuel", litres)?;
-    session.entity("Docked")?;
+    let fuel = Id::of(session.component("Fuel", litres)?);
+    let docked = Id::of(session.entity("Docked")?);
 
     let heron = session.entity("Heron")?;
-    session.set(heron, Id::plain(FUEL), &[40])?;
-    session.add(heron, Id::plain(DOCKED))?;
+    session.set(heron, fuel, &[40])?;
+    session.add(heron, docked)?;
     let swift = session.entity("Swift")?;
-    session.set(swift, Id::plain(FUEL), &[25])?;
-    session.add(swift, Id::plain(DOCKED))?;
+    session.set(swift, fuel, &[25])?;
+    session.add(swift, docked)?;
 
     // A kept query knows its tables; a monitor notifies of who enters its rows, and who leaves them.
     session.store(StoredKind::Kept, "in_port", "Docked, Fuel")?;
     session.store(StoredKind::Monitor, "at_sea", "Fuel, !Docked")?;
     session.write_kept_rows("in_port", out)?;
 
-    session.remove(heron, Id::plain(DOCKED))?;
+    session.remove(heron, docked)?;
     session.write_events(out)?;
-    session.set(heron, Id::plain(FUEL), &[33])?;
+    session.set(heron, fuel, &[33])?;
     session.write_events(out)?;
     session.write_kept_rows("in_port", out)?;
     Ok(())

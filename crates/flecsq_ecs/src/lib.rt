@@ -18,4 +18,4 @@ pub use query_chunks::{Chunk, Chunks, Column, has_chunks};
 pub use query_model::faults::{Fault, FaultKind, QueryFault};
 pub use script_streams::Sink;
 pub use world_query::{SendError, read_query, send_rows, write_rows};
-pub use world_rows::{Asked, FactValue, Field, Rows, WorldView};
+pub use world_rows::{Asked, FactValue, Field, MatchError, Matcher, Rows, WorldView};

@@ -12,6 +12,8 @@ mod kept;
 #[cfg(test)]
 mod lists;
 #[cfg(test)]
+mod matches;
+#[cfg(test)]
 mod numbers;
 #[cfg(test)]
 mod orders;

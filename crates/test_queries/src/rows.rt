@@ -1,6 +1,7 @@
 //! Rows one at a time, compared with the rows of a query as they print.
 
 use crate::kept::tables_in;
+use crate::matches::compare_matches;
 use crate::numbers::{Sum, sum_of, with, with_fact, with_name, with_value};
 use crate::worked::{DIAMOND, fill};
 use crate::worlds::{add_all, new_world};
@@ -123,7 +124,7 @@ fn ask_kept(
 }
 
 /// The rows of a query are those that are printed: also when it is asked again, and from the tables that are kept for
-/// it.
+/// it. Their `$this` are the entities that are in it.
 pub(crate) fn compare_rows(
     rt: &impl Abort,
     alloc: Global,
@@ -137,10 +138,10 @@ pub(crate) fn compare_rows(
     let asked = ask(rt, &view, query, asked, printed);
     let asked = ask(rt, &view, query, asked, printed);
     let asked = ask_kept(rt, alloc, &view, query, asked, printed);
-    drop(asked);
+    compare_matches(rt, alloc, &view, asked);
 }
 
-const KINDS_OF_A: &str = "(IsA,A)";
+pub(crate) const KINDS_OF_A: &str = "(IsA,A)";
 
 /// The rows of that query in the diamond, and in the world that it grows to.
 const KINDS: &str = "row $this=A [(IsA,A)@A]

@@ -8,7 +8,7 @@ use crate::scripts::{EARTH, HOT, MOON, PLANET, POSITION, SYSTEM_LINES};
 use ecs_id::Id;
 use ecs_model::faults::SessionRefusal;
 use ecs_model::watches::StoredKind;
-use ecs_observe::{Session, SessionError};
+use ecs_observe::{Session, SessionError, SetColumnError};
 use std::alloc::{AllocError, Global};
 use std::process::Abort;
 use std::test::Fail;
@@ -52,14 +52,25 @@ fn judged(rt: &impl Abort, session: &Session, name: &str) -> u64 {
     judged.unwrap_or(0)
 }
 
-/// The values of all entities of a table are set at once, where no stored query is a watch.
+/// Two values, for the entities of a table.
+const PLACES: [u8; 8] = [1, 0, 0, 0, 255, 255, 255, 255];
+
+/// The values of all entities of a table are set at once, also beside a monitor. Where a stored query observes that
+/// values of the id are set, the call is refused.
 fn expect_column(rt: &impl Abort, alloc: Global, session: &mut Session) -> Result<(), Fail> {
     let mut tables = Vec::new(alloc);
     session.kept_tables("k", &mut tables)?;
     let key = tables.first().expect(rt, "no table is kept").key();
     drop(tables);
-    let set = session.set_column(key, Id::plain(POSITION), &[1, 0, 0, 0, 255, 255, 255, 255]);
-    assert!(rt; set.is_ok());
+    let position = Id::plain(POSITION);
+    session.store(StoredKind::Monitor, "near", "Position")?;
+    let set = session.set_column(key, position, &PLACES);
+    assert!(rt; set.is_ok() && !session.has_events());
+    session.store(StoredKind::OnSet, "moved", "Position")?;
+    let set = session.set_column(key, position, &PLACES);
+    assert!(rt; set == Err(SetColumnError::Watched));
+    session.drop_stored("moved")?;
+    session.drop_stored("near")?;
     Ok(())
 }
 
