@@ -72,12 +72,12 @@ pub record HasMarks {Y : Type 0} (marks : SlotMarks Y) (n : ℕ) : Type 0 where
   pub filled : n < length marks.filled
   pub in_turn : n + 1 < length marks.in_turn
 
--- there are more bits, none of which is set
+-- bits may have come, which are clear, and each other one is as it was
 pub record IsLonger (old new : List Bool) : Type 0 where
   pub longer : length old ≤ length new
   pub same : (n : ℕ) → slice_index_or new n false ≡ slice_index_or old n false
 
--- marks may have come, and each is as it was
+-- the same of both kinds of marks
 pub record HaveGrown {Y : Type 0} (old new : SlotMarks Y) : Type 0 where
   pub filled : IsLonger old.filled new.filled
   pub in_turn : IsLonger old.in_turn new.in_turn

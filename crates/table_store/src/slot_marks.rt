@@ -1,7 +1,7 @@
 //! What is known of the tables in slots without a look at them.
 
-ghost use Rattle.std.specs.Prelude.{◌≡◌, ◌+◌, ◌-◌, ◌<◌, ◌≤◌, ◌^◌, ℕ, [], OnOk, IsTrue, Some, false, true, if◌then◌else◌};
-ghost use Rattle.std.specs.Prelude.{length, slice_index_or, slice_set};
+ghost use Rattle.std.specs.Prelude.{◌≡◌, ◌+◌, ◌-◌, ◌<◌, ◌≤◌, ◌^◌, ℕ, [], OnOk, IsTrue, Some, false, true};
+ghost use Rattle.std.specs.Prelude.{if◌then◌else◌, length, slice_index_or, slice_set};
 ghost use Rattle.std.specs.Int.{bit_at};
 ghost use Rattle.table_store.specs.Kept.{Follows, HasMarks, HaveGrown, IsTurnNoted, serial_at};
 

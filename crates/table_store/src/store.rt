@@ -75,6 +75,7 @@ type BySerial<A> = Vec<ListedKey, A>;
 /// The tables of a world, one for each set of ids.
 pub struct TableStore<A: Allocator = Global> {
     tables: Slots<A>,
+    // of each slot, whether its table has rows, and whether it was made right after that in the slot before
     marks: SlotMarks<A>,
     by_ids: ByIds<A>,
     by_serial: BySerial<A>,
@@ -592,8 +593,8 @@ impl<A: Allocator> TableStore<A> {
         self.marks.filled_bits(slot)
     }
 
-    /// Whether `width` tables stand whose slots and serials follow one another from this one on. It takes constant time.
-    /// That it is true where they stand isn't promised.
+    /// Whether `width` tables stand whose slots and serials follow one another from this one on. It takes constant
+    /// time. That it is true where they stand isn't promised.
     pub fn stand_in_turn(&self, first: TableKey, width: u32) -> bool
         requires { width ≤ 64 }
         ensures stand { IsTrue result → (n : ℕ) → n < width → IsSome (table_at self.now (record {

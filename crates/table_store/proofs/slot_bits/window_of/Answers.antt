@@ -1,5 +1,5 @@
 use Rattle.std.specs.Prelude.{bit_or}
-use Rattle.std.proofs.Common.{◌-◌, ◌*◌, ◌/◌, ◌%◌, ◌^◌, ◌+◌, ◌<◌, ap, arith, get_or, ◌∙◌}
+use Rattle.std.proofs.Common.{◌-◌, ◌*◌, ◌/◌, ◌%◌, ◌^◌, ap, arith, get_or, ◌∙◌}
 use Rattle.std.specs.Int.{bit_at}
 use Rattle.table_store.proofs.BitLists.{window_two}
 use Rattle.table_store.proofs.slot_bits.window_of.Goals as goal

@@ -1,4 +1,4 @@
-use Rattle.std.proofs.Common.{◌+◌, ◌<◌, ◌^◌, arith, eqb-true, false, slice_index_or}
+use Rattle.std.proofs.Common.{◌+◌, arith, eqb-true, false, slice_index_or}
 use Rattle.table_store.proofs.BitLists.{set_behind}
 use Rattle.table_store.proofs.slot_bits.SlotBits.are_set_behind.Goals as goal
 

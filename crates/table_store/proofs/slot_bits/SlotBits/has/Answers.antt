@@ -1,4 +1,4 @@
-use Rattle.std.proofs.Common.{◌==◌, ◌%◌, ◌/◌, ◌^◌, false, ap, slice_index_or, sym, ◌∙◌}
+use Rattle.std.proofs.Common.{◌==◌, ◌%◌, false, ap, slice_index_or, sym, ◌∙◌}
 use Rattle.std.specs.Int.{bit_at}
 use Rattle.std.proofs.lemmas.Nat.Bits.{shr_and_one}
 use Rattle.table_store.specs.SlotBits.{is_set}
