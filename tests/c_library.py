@@ -328,9 +328,24 @@ def a_line_costs_what_it_costs_in_a_script(room):
     return 100 < by_lines < 1.2 * in_script and by_numbers < in_script and of_output < 50
 
 
+def install(folder):
+    ran(sys.executable, library.__file__, "install", folder, env={**os.environ, "UNPROVED": "1"})
+
+
+def no_link_stands_in_the_repository(room):
+    """The gate refuses links: neither what is built is one, nor what is installed within the repository."""
+    with tempfile.TemporaryDirectory(dir=library.OUT) as inside:
+        install(inside)
+        found = [os.path.join(at, it) for at, folders, files in os.walk(TOP) for it in (*folders, *files) if os.path.islink(os.path.join(at, it))]
+        is_whole = all(os.path.isfile(os.path.join(inside, "lib", it)) for it in library.shared_names())
+    if found:
+        raise ValueError(", ".join(found))
+    return is_whole
+
+
 def what_is_installed_is_found(room):
     """By pkg-config, with the shared library."""
-    ran(sys.executable, library.__file__, "install", room, env={**os.environ, "UNPROVED": "1"})
+    install(room)
     lib = os.path.join(room, "lib")
     words = ran(tool("pkg-config"), "--cflags", "--libs", "flecsq", env={**os.environ, "PKG_CONFIG_PATH": os.path.join(lib, "pkgconfig")}).decode().split()
     program = os.path.join(room, "cellar")
@@ -371,6 +386,7 @@ CASES = [
     refused_memory_is_clean,
     threads_have_an_engine_each,
     a_line_costs_what_it_costs_in_a_script,
+    no_link_stands_in_the_repository,
     what_is_installed_is_found,
     the_page_shows_what_stands_in_the_sources,
 ]

@@ -84,24 +84,31 @@ def link(code):
 
     os.replace(static, os.path.join(OUT, STATIC))
     os.replace(shared, os.path.join(OUT, file))
-    # (copies: `rt ci` takes no links under the folder that it checks)
-    put_names(OUT, shutil.copy)
+    put_names(OUT)
 
 
-def put_names(folder, put):
-    """The names by which a program finds the shared library, and a linker does, beside it."""
+def is_of_repository(folder):
+    return os.path.commonpath([TOP, os.path.realpath(folder)]) == TOP
+
+
+def put_names(folder):
+    """The names by which a program finds the shared library, and a linker does, beside it: links, but copies within the repository, where the gate
+    refuses links."""
     file, *others = shared_names()
     for name in others:
         place = os.path.join(folder, name)
         if os.path.lexists(place):
             os.remove(place)
-        put(file if put is os.symlink else os.path.join(folder, file), place)
+        if is_of_repository(folder):
+            shutil.copy(os.path.join(folder, file), place)
+        else:
+            os.symlink(file, place)
 
 
 def is_linked(code):
     """Whether both libraries are of this code, and younger than all that they are made from."""
-    made = [os.path.join(OUT, it) for it in (STATIC, shared_names()[0], "libflecsq.from")]
-    if not all(map(os.path.exists, made)) or read(made[2]) != code:
+    made = [os.path.join(OUT, it) for it in ("libflecsq.from", STATIC, *shared_names())]
+    if not all(map(os.path.isfile, made)) or any(map(os.path.islink, made)) or read(made[0]) != code:
         return False
     oldest = min(os.stat(it).st_mtime for it in made)
     return all(os.stat(it).st_mtime <= oldest for it in (code, EXPORTS, os.path.realpath(__file__)))
@@ -157,7 +164,7 @@ def install(folder):
     told = "" if is_proved else ", which is not proved"
     build.install_file(os.path.join(OUT, STATIC), lib, 0o644, told)
     build.install_file(os.path.join(OUT, file), lib, 0o755, told)
-    put_names(lib, os.symlink)
+    put_names(lib)
     build.install_file(HEADER, os.path.join(folder, "include"), 0o644)
     package = os.path.join(OUT, "flecsq.pc")
     with open(package, "w", encoding="utf-8") as made:
