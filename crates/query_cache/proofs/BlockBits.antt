@@ -55,7 +55,7 @@ module _ (b : Block) (is : IsBlock b) (n : ℕ) (low : b.width ≤ n) (small : n
       )
       ∙ map-append (key_at b) (filter p (range_with_len 0 b.width)) (n ∷ [])
 
-  pub set_block : b.slot + n < 2 ^ 32 → b.serial + n < 2 ^ 128 → IsBlock with_one
+  pub set_block : b.slot + n < 2 ^ 32 → b.serial + n < 2 ^ 64 → IsBlock with_one
   set_block slot serial = record {
     width = omega (arith, small);
     slots = omega (arith, slot);
@@ -136,21 +136,21 @@ unfolding keys_of
 no_bits b none = ap (map (key_at b)) (none_between (λ k. bit_at b.bits k == 1) 0 b.width (λ k above below. ap (λ x. bit_at x k == 1) none ∙ ap (λ x. x == 1) (bit_at-zero k)))
 
 -- ---- a block of one table
-module _ (k : TableKey) where
+module _ (k : TableKey) (slot serial : ℕ) (same_slot : slot ≡ k.slot) (same_serial : serial ≡ k.serial) where
   abbrev one : Block
-  one = record { serial = k.serial; bits = 1; slot = k.slot; width = 1 }
+  one = record { serial = serial; bits = 1; slot = slot; width = 1 }
 
   pub one_key : keys_of one ≡ k ∷ []
   unfolding keys_of
   one_key =
-      let slot : k.slot + 0 ≡ k.slot = omega arith in
-      let serial : k.serial + 0 ≡ k.serial = omega arith in
-      λ i. record { slot = slot i; serial = serial i } ∷ []
+      let slot_is : slot + 0 ≡ k.slot = omega (arith, same_slot) in
+      let serial_is : serial + 0 ≡ k.serial = omega (arith, same_serial) in
+      λ i. record { slot = slot_is i; serial = serial_is i } ∷ []
 
-  pub one_block : k.slot < 2 ^ 32 → k.serial < 2 ^ 128 → IsBlock one
-  one_block slot serial = record {
+  pub one_block : slot < 2 ^ 32 → serial < 2 ^ 64 → IsBlock one
+  one_block low_slot low_serial = record {
     width = omega arith;
-    slots = omega (arith, slot);
-    serials = omega (arith, serial);
+    slots = omega (arith, low_slot);
+    serials = omega (arith, low_serial);
     behind = λ n above top. bit_at_above 1 1 n (omega arith) above;
   }

@@ -6,5 +6,6 @@ pub mod TakenTables
 pub mod PatternWalks
 pub mod BlockBits
 pub mod BlockTables
+pub mod CountedTables
 pub mod FilledBlocks
 pub mod LowestBits

@@ -1,16 +1,18 @@
 -- What is taken in from the tables above a serial.
 use Rattle.std.proofs.Math.Seq.{take-append_seam}
-use Rattle.std.proofs.lemmas.List.{take-append-drop}
-use Rattle.std.proofs.Common.{◌≡◌, drop, take, inl, inr, ℕ, zero, suc, ◌+◌, ◌<◌, ◌≤◌, Bool, true, false, append-nil, append_assoc, cond, le-leb, List, [], ◌∷◌, ◌++◌, Ok, Err, OnErr, OnOk, Result, is_err, length, map, max, min, nat_le, slice_index_or, refl, sym, ap, subst, ◌∙◌, arith, true≢false}
+use Rattle.std.proofs.lemmas.List.{length-append, length_push, take-append-drop}
+use Rattle.std.specs.Option.{option_map_or}
+use Rattle.std.proofs.Common.{◌≡◌, drop, take, inl, inr, ℕ, zero, suc, ◌+◌, ◌<◌, ◌≤◌, Bool, true, false, append-nil, append_assoc, cond, le-leb, List, [], ◌∷◌, ◌++◌, IsTrue, Ok, Err, OnErr, OnOk, Option, Some, None, Result, is_err, is_some, option_map, length, map, max, min, nat_le, slice_index_or, refl, sym, ap, subst, ◌∙◌, arith, true≢false}
 use Rattle.std.specs.List.{AllByRecursion, Contains, filter}
 use Rattle.std.proofs.lemmas.Bool.Decides.{nat_tests}
-use Rattle.std.proofs.lemmas.List.Elements.{Contains-append_cases, Contains-get_or, filter-append, recursion_from_All}
+use Rattle.std.proofs.lemmas.List.Elements.{Contains-append_left, Contains-get_or, filter-append, recursion_from_All}
 use Rattle.id_pattern.specs.declared.Pattern.{Pattern}
 use Rattle.ecs_id.specs.declared.TableKey.{TableKey}
-use Rattle.table_store.specs.Store.{Store, IsStore}
+use Rattle.ecs_table.specs.Archetype.{Archetype}
+use Rattle.table_store.specs.Store.{Store, IsStore, table_at}
 pub use Rattle.table_store.proofs.Order.{less_is}
-use Rattle.query_cache.specs.Kept.{AreAbove, Counts, IsTakenIn, is_kept}
-use Rattle.query_cache.proofs.Filters.{from_filter}
+use Rattle.query_cache.specs.Kept.{AreAbove, Counts, IsRising, IsTakenIn, is_kept, stands, suits}
+use Rattle.query_cache.proofs.Filters.{from_filter, rising_filter, to_filter}
 
 abbrev pub serials_of : List TableKey → List ℕ
 serials_of keys = map (λ k. k.serial) keys
@@ -33,23 +35,71 @@ counts_more before n mid after (inl e) h = by (mid + 1) refl
     by m e' = grind arith
 counts_more before n mid after (inr e) h = inr (omega arith, omega (arith, e.1, h), omega (arith, e.2))
 
--- these are the tables above a serial
-module _ (s : Store) (store : IsStore s) (patterns : List Pattern) (last : ℕ) (above : List TableKey) (are_above : AreAbove s last above) where
-  module _ {E : Type 0} (keys now taken : List TableKey) (before after : ℕ) where
+-- ---- of some keys those whose tables stand
+module _ (s : Store) (patterns : List Pattern) where
+  -- a table that is gone is none of the query
+  gone : (o : Option Archetype) → is_some o ≡ false → option_map_or (suits patterns) (option_map (λ t. t.ids) o) false ≡ false
+  gone None h = refl
+  gone (Some t) h = absurd (true≢false h)
+
+  kept_of_standing : (keys : List TableKey) → filter (is_kept patterns s) (filter (stands s) keys) ≡ filter (is_kept patterns s) keys
+  kept_of_standing [] = refl
+  kept_of_standing (k ∷ keys) = by (stands s k) refl (kept_of_standing keys)
+    where
+      by : (b : Bool) → stands s k ≡ b → filter (is_kept patterns s) (filter (stands s) keys) ≡ filter (is_kept patterns s) keys
+          → filter (is_kept patterns s) (cond b (k ∷ filter (stands s) keys) (filter (stands s) keys)) ≡ cond (is_kept patterns s k) (k ∷ filter (is_kept patterns s) keys) (filter (is_kept patterns s) keys)
+      by true e rest = ap (λ l. cond (is_kept patterns s k) (k ∷ l) l) rest
+      by false e rest = rest ∙ ap (λ b. cond b (k ∷ filter (is_kept patterns s) keys) (filter (is_kept patterns s) keys)) (sym (gone (table_at s k) e))
+
+-- one more key, whose table is judged where it stands
+pub one_judged : (p : TableKey → Bool) (before mid after : ℕ) (keys : List TableKey) (x : TableKey) → Counts before (length (filter p keys)) mid → after ≡ cond (p x) (min (mid + 1) 18446744073709551615) mid
+    → Counts before (length (filter p (keys ++ x ∷ []))) after
+one_judged p before mid after keys x counts is =
+    subst (λ l. Counts before (length l) after) (sym (filter-append p keys (x ∷ []))) (by (p x) is)
+  where
+    by : (b : Bool) → after ≡ cond b (min (mid + 1) 18446744073709551615) mid → Counts before (length (filter p keys ++ cond b (x ∷ []) [])) after
+    by true e = subst (λ n. Counts before n after) (sym (length_push (filter p keys) x)) (counts_more before (length (filter p keys)) mid after counts e)
+    by false e = subst (λ l. Counts before (length l) after) (sym (append-nil (filter p keys))) (subst (Counts before (length (filter p keys))) (sym e) counts)
+
+front_less : {X : Type 0} (p : X → Bool) (n : ℕ) (xs : List X) → length (filter p (take n xs)) ≤ length (filter p xs)
+front_less p n xs =
+    let all = ap (λ l. length (filter p l)) (sym (take-append-drop n xs)) ∙ ap length (filter-append p (take n xs) (drop n xs)) ∙ length-append (filter p (take n xs)) (filter p (drop n xs)) in
+    omega (arith, all)
+
+-- what the first of some keys have, all of them do
+pub from_front : {X : Type 0} (n : ℕ) (xs : List X) (x : X) → Contains (take n xs) x → Contains xs x
+from_front n xs x c = subst (λ l. Contains l x) (take-append-drop n xs) (Contains-append_left (take n xs) (drop n xs) x c)
+
+-- these are the keys above a serial, of tables that stand and of some that don't
+module _ (s : Store) (store : IsStore s) (patterns : List Pattern) (last : ℕ) (newer : List TableKey) (has : (k : TableKey) → IsTrue (stands s k) → last < k.serial → Contains newer k) (over : (k : TableKey) → Contains newer k → last < k.serial)
+    (rising : IsRising newer) where
+  abbrev above : List TableKey
+  above = filter (stands s) newer
+
+  are_above : AreAbove s last above
+  are_above = record {
+    listed = λ k. (
+      λ c. let w = from_filter (stands s) newer k c.0 c.1 c.2 in (w.1, over k w.0),
+      λ h. let c = has k h.0 h.1 in to_filter (stands s) newer k c.0 c.1 c.2 h.0,
+    );
+    rising = rising_filter (stands s) newer rising;
+  }
+
+  module _ {E : Type 0} (keys now : List TableKey) (before after : ℕ) where
     -- the loop is at its end
-    pub all_taken_in : (n : ℕ) → taken ≡ above → now ≡ keys ++ filter (is_kept patterns s) taken → Counts before (length taken) after → n ≡ max last s.last → IsTakenIn {E = E} s patterns last (Ok n) keys now before after
-    all_taken_in n all is counts e = record {
-      judges = record { above = above; are_above = are_above; count = length above; at_most = omega arith; ok = refl; counted = subst (λ l. Counts before (length l) after) all counts };
-      taken = is ∙ ap (λ l. keys ++ filter (is_kept patterns s) l) all;
-      greatest = (omega (arith, e), omega (arith, e), λ k there over. let given = (store.serials k there).1 in omega (arith, given, e));
+    pub all_taken_in : (n : ℕ) → now ≡ keys ++ filter (is_kept patterns s) newer → Counts before (length (filter (stands s) newer)) after → n ≡ max last s.last → IsTakenIn {E = E} s patterns last (Ok n) keys now before after
+    all_taken_in n is counts e = record {
+      judges = record { above = above; are_above = are_above; count = length above; at_most = omega arith; ok = refl; counted = counts };
+      taken = is ∙ ap (λ l. keys ++ l) (sym (kept_of_standing s patterns newer));
+      greatest = (omega (arith, e), omega (arith, e), λ k there high. let given = (store.serials k there).1 in omega (arith, given, e));
       err = tt;
       store = store;
     }
 
     -- no room for a key
-    pub refused : (x : E) (mid : ℕ) → length taken < length above → Counts before (length taken) mid → after ≡ min (mid + 1) 18446744073709551615 → now ≡ keys → IsTakenIn s patterns last (Err x) keys now before after
-    refused x mid lt counts h e = record {
-      judges = record { above = above; are_above = are_above; count = length taken + 1; at_most = omega (arith, lt); ok = tt; counted = counts_more before (length taken) mid after counts h };
+    pub refused : (x : E) (n : ℕ) → Counts before (length (filter (stands s) (take n newer))) after → now ≡ keys → IsTakenIn s patterns last (Err x) keys now before after
+    refused x n counts e = record {
+      judges = record { above = above; are_above = are_above; count = length (filter (stands s) (take n newer)); at_most = front_less (stands s) n newer; ok = tt; counted = counts };
       taken = tt;
       greatest = tt;
       err = e;
@@ -80,17 +130,6 @@ only_before last p old taken low high =
   where
     past : (n last : ℕ) → last < n → nat_le n last ≡ false
     past n last h = grind (arith, nat_tests)
-
-pub later_one : (last : ℕ) (taken : List TableKey) (x : TableKey) → ((k : TableKey) → Contains taken k → last < k.serial) → last < x.serial → (k : TableKey) → Contains (taken ++ x ∷ []) k → last < k.serial
-later_one last taken x before above k c =
-    elim (Contains-append_cases taken (x ∷ []) k c) [
-      | inl there ↦ before k there
-      | inr here ↦ only x k here above
-    ]
-  where
-    only : (x k : TableKey) → Contains (x ∷ []) k → last < x.serial → last < k.serial
-    only x k (zero, lt, same) above = subst (λ y. last < y.serial) same above
-    only x k (suc n, lt, same) above = absurd (omega (arith, lt))
 
 pub on_err_anyway : {T E P : Type 0} (r : Result T E) → P → OnErr r P
 on_err_anyway (Ok x) p = tt

@@ -28,7 +28,7 @@ keys_in blocks = flat_map keys_of blocks
 pub record IsBlock (b : Block) : Type 0 where
   pub width : b.width ≤ 64
   pub slots : b.slot + b.width ≤ 2 ^ 32
-  pub serials : b.serial + b.width ≤ 2 ^ 128
+  pub serials : b.serial + b.width ≤ 2 ^ 64
   pub behind : (n : ℕ) → b.width ≤ n → n < 64 → bit_at b.bits n ≡ 0
 
 -- whether a table stays in a list

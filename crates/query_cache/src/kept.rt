@@ -1,6 +1,7 @@
 //! The list of the tables that a kept query is about.
 
-ghost use Rattle.std.specs.Prelude.{◌≡◌, ◌↔◌, ◌+◌, ◌++◌, ◌≤◌, [], min, IfOk, IsTrue, OnErr, OnOk};
+ghost use Rattle.std.specs.Prelude.{◌≡◌, ◌↔◌, ◌+◌, ◌++◌, ◌<◌, ◌≤◌, [], min, IfOk, IsTrue, OnErr, OnOk};
+ghost use Rattle.std.specs.Prelude.{◌^◌, MatchOption, if◌then◌else◌, length};
 ghost use Rattle.std.specs.List.{Contains, filter};
 ghost use Rattle.ecs_id.specs.declared.TableKey.{TableKey};
 ghost use Rattle.query_cache.specs.Kept.{has_rows, is_kept, Fits, IsRising, IsSynced, IsTakenIn, Judges, stands};
@@ -95,6 +96,13 @@ impl<A: Allocator> Kept<A> {
         self.keys.push_filled_onto(store, tables)
     }
 
+    /// How many tables it has, counted by blocks of them. None where a `usize` doesn't count so many.
+    pub fn count(&self) -> Option<usize>
+        ensures { MatchOption result (2 ^ 64 ≤ length self.now.keys) (λ n. n ≡ length self.now.keys) }
+    {
+        self.keys.count()
+    }
+
     /// How many tables were judged so far. It stays at its greatest number.
     pub fn judged(&self) -> u64
         ensures { result ≡ self.now.judged }
@@ -132,20 +140,23 @@ impl<A: Allocator> Kept<A> {
     }
 }
 
-/// Whether the table under a key is one of the query. This is where tables are judged, and counted.
+/// Whether the table under a key stands and is one of the query. This is where tables are judged, and counted.
+#[inline(always)]
 fn is_kept<B: Allocator>(
     patterns: &[Pattern],
     tables: &TableStore<B>,
-    key: TableKey,
+    key: ListedKey,
     judged: &mut u64,
 ) -> bool
     ensures kept { result ≡ is_kept patterns.now tables.now key }
-    ensures judged { judged.new ≡ min (judged.old + 1) 18446744073709551615 }
+    ensures judged { judged.new ≡ (if stands tables.now key then min (judged.old + 1) 18446744073709551615
+        else judged.old) }
 {
+    let Some(table) = tables.get(key.key()) else {
+        return false;
+    };
     *judged = judged.saturating_add(1);
-    tables
-        .get(key)
-        .is_some_and(|table| suits(patterns, table.ids()))
+    suits(patterns, table.ids())
 }
 
 /// Appends to the keys those tables above a serial that are of the query. Answers the greatest serial that was given.
@@ -159,13 +170,25 @@ fn take_in<A: Allocator, B: Allocator>(
     requires { (k : TableKey) → Contains keys.old.items k → k.serial ≤ last }
     ensures { IsTakenIn tables.now patterns.now last result keys.old.items keys.new.items judged.old judged.new }
 {
-    for key in tables.since(last) {
-        if is_kept(patterns, tables, key, judged) && keys.push(key).is_err() {
+    // tables that were released may be among them: the one look-up of the judgement tells
+    for key in newer(tables.remembered(), last) {
+        if is_kept(patterns, tables, *key, judged) && keys.push(*key).is_err() {
             keys.retain(&Keep::<B>::UpTo(last));
             return Err(AllocError);
         }
     }
     Ok(last.max(tables.last()))
+}
+
+/// The keys with greater serials, among keys by rising serial.
+fn newer(keys: &[ListedKey], serial: u128) -> &[ListedKey]
+    requires { IsRising keys.now }
+    ensures listed { (k : TableKey) → Contains keys.now k → serial < k.serial → Contains result.now k }
+    ensures newer { (k : TableKey) → Contains result.now k → serial < k.serial }
+    ensures rising { IsRising result.now }
+{
+    let known = keys.partition_point(|key| key.key().serial <= serial);
+    &keys[known..]
 }
 
 /// Keeps the keys of the tables that stand.

@@ -1,7 +1,7 @@
 //! Tables whose serials and slots go side by side, a bit for each.
 
 ghost use Rattle.std.specs.Prelude.{◌≡◌, ◌<◌, ◌≤◌, ◌==◌, ◌++◌, ◌∷◌, [], IfSome, IsTrue, OnOk, filter, if◌then◌else◌};
-ghost use Rattle.std.specs.Prelude.{◌+◌, IsSome, OnErr, is_some, length, take, true, ℕ};
+ghost use Rattle.std.specs.Prelude.{◌+◌, ◌^◌, IsSome, OnErr, is_some, length, take, true, ℕ};
 ghost use Rattle.std.specs.Int.{bit_at};
 ghost use Rattle.std.specs.List.{Contains};
 ghost use Rattle.ecs_id.specs.declared.TableKey.{TableKey};
@@ -54,7 +54,7 @@ impl<A: Allocator> Keep<'_, A> {
 #[derive(Clone, Copy)]
 pub(crate) struct Block {
     /// Of the first.
-    pub(crate) serial: u128,
+    pub(crate) serial: u64,
     /// Bit `n` is set where the table is listed that comes `n` after the first.
     pub(crate) bits: u64,
     /// Of the first.
@@ -65,20 +65,21 @@ pub(crate) struct Block {
 
 impl Block {
     /// Of one table.
-    pub(crate) fn of(key: TableKey) -> Block
+    pub(crate) fn of(key: ListedKey) -> Block
         ensures keys { keys_of result ≡ key ∷ [] }
         ensures block { IsBlock result }
     {
         Block {
-            serial: key.serial,
+            serial: key.serial(),
             bits: 1,
-            slot: key.slot,
+            slot: key.slot(),
             width: 1,
         }
     }
 
     /// Appends a table, and answers whether it has a bit here for that.
-    pub(crate) fn put(&mut self, key: TableKey) -> bool
+    #[inline(always)]
+    pub(crate) fn put(&mut self, key: ListedKey) -> bool
         requires block { IsBlock self.old }
         ensures keys { keys_of self.new ≡ keys_of self.old ++ (if result then key ∷ [] else []) }
         ensures block { IsBlock self.new }
@@ -92,11 +93,16 @@ impl Block {
     }
 
     /// The bit of a table, if it has one after all others.
-    fn bit_behind(&self, key: TableKey) -> Option<u32>
-        ensures { IfSome result (λ bit. (self.now.width ≤ bit) × (bit < 64) × (key_at self.now bit ≡ key)) }
+    #[inline(always)]
+    fn bit_behind(&self, key: ListedKey) -> Option<u32>
+        ensures behind { IfSome result (λ bit. self.now.width ≤ bit) }
+        ensures small { IfSome result (λ bit. bit < 64) }
+        ensures key { IfSome result (λ bit. key_at self.now bit ≡ key) }
+        ensures slot { IfSome result (λ bit. self.now.slot + bit < 2 ^ 32) }
+        ensures serial { IfSome result (λ bit. self.now.serial + bit < 2 ^ 64) }
     {
-        let behind = key.serial.checked_sub(self.serial)?;
-        if behind >= 64 || u64::from(key.slot) != u64::from(self.slot) + behind as u64 {
+        let behind = key.serial().checked_sub(self.serial)?;
+        if behind >= 64 || u64::from(key.slot()) != u64::from(self.slot) + behind {
             return None;
         }
         let bit = behind as u32;
@@ -137,7 +143,7 @@ impl Block {
         ensures refused { OnErr result (keys.new.items ≡ keys.old.items) }
     {
         let Some(key) = ListedKey::of(self.key_at(bit)) else {
-            return Err(AllocError);
+            unreachable!();
         };
         keys.push(key)?;
         Ok(())
@@ -164,6 +170,15 @@ impl Block {
             return Ok(());
         }
         filled.push_onto(keys)
+    }
+
+    /// How many tables it has.
+    #[inline(always)]
+    pub(crate) fn count(&self) -> u32
+        requires block { IsBlock self.now }
+        ensures { result ≡ length (keys_of self.now) }
+    {
+        self.bits.count_ones()
     }
 
     /// Leaves those that are to stay.
@@ -193,7 +208,7 @@ impl Block {
     {
         TableKey {
             slot: self.slot,
-            serial: self.serial,
+            serial: u128::from(self.serial),
         }
     }
 
@@ -206,7 +221,7 @@ impl Block {
     {
         TableKey {
             slot: self.slot + bit,
-            serial: self.serial + u128::from(bit),
+            serial: u128::from(self.serial + u64::from(bit)),
         }
     }
 }

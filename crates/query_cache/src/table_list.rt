@@ -1,19 +1,20 @@
 //! The list.
 
-ghost use Rattle.std.specs.Prelude.{◌≡◌, ◌++◌, ◌∷◌, [], All, IsTrue, OnErr, OnOk, filter, if◌then◌else◌, length};
+ghost use Rattle.std.specs.Prelude.{◌≡◌, ◌≤◌, ◌^◌, ◌++◌, ◌∷◌, [], All, IsTrue, MatchOption, OnErr, OnOk, filter, length};
+ghost use Rattle.std.specs.Prelude.{if◌then◌else◌};
 ghost use Rattle.std.specs.List.{Contains};
 ghost use Rattle.ecs_id.specs.declared.TableKey.{TableKey};
 ghost use Rattle.query_cache.specs.Kept.{has_rows, stands};
 ghost use Rattle.query_cache.specs.TableList.{IsBlock, keeps, keys_in};
 
 use crate::table_block::{Block, Keep};
-use ecs_id::{ListedKey, TableKey};
+use ecs_id::ListedKey;
 use std::alloc::{AllocError, Allocator, Global};
 use std::marker::Model;
 use table_store::TableStore;
 
-/// A list of tables. It takes 32 bytes for each 64 tables that were made one after another in new slots, and never more
-/// than 32 bytes a table.
+/// A list of tables. It takes 24 bytes for each 64 tables that were made one after another in new slots, and never more
+/// than 24 bytes a table.
 #[derive(Drop)]
 pub struct TableList<A: Allocator = Global> {
     blocks: Vec<Block, A>,
@@ -43,7 +44,8 @@ impl<A: Allocator> TableList<A> {
     /// Appends a table.
     ///
     /// Where memory is refused, the list stays as it was.
-    pub fn push(&mut self, key: TableKey) -> Result<(), AllocError>
+    #[inline(always)]
+    pub fn push(&mut self, key: ListedKey) -> Result<(), AllocError>
         ensures pushed { OnOk result (self.new.items ≡ self.old.items ++ key ∷ []) }
         ensures refused { OnErr result (self.new.items ≡ self.old.items) }
     {
@@ -60,6 +62,20 @@ impl<A: Allocator> TableList<A> {
     {
         retain_in(self.blocks.as_mut_slice(), keep);
         self.blocks.retain(|block| block.bits != 0);
+    }
+
+    /// How many tables it has. None where a `usize` doesn't count so many.
+    pub fn count(&self) -> Option<usize>
+        ensures { MatchOption result (2 ^ 64 ≤ length self.now.items) (λ n. n ≡ length self.now.items) }
+    {
+        let mut count: usize = 0;
+        for block in &self.blocks {
+            let Some(more) = count.checked_add(block.count() as usize) else {
+                return None;
+            };
+            count = more;
+        }
+        Some(count)
     }
 
     /// Appends the tables to another list.
@@ -103,7 +119,8 @@ impl<A: Allocator> TableList<A> {
 }
 
 /// Puts a table into the last of some blocks, and answers whether it has a bit there.
-fn put_in_last(blocks: &mut [Block], key: TableKey) -> bool
+#[inline(always)]
+fn put_in_last(blocks: &mut [Block], key: ListedKey) -> bool
     requires blocks { All IsBlock blocks.old }
     ensures keys { keys_in blocks.new ≡ keys_in blocks.old ++ (if result then key ∷ [] else []) }
     ensures length { length blocks.new ≡ length blocks.old }
