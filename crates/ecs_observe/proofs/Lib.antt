@@ -29,3 +29,4 @@ pub mod NoRows
 pub mod SentRows
 pub mod UntoldCommands
 pub mod PlacedMoves
+pub mod CommandLists

@@ -8,3 +8,4 @@ pub mod Following
 pub mod Commands
 pub mod Stored
 pub mod Columns
+pub mod Batches

@@ -15,6 +15,16 @@ pub enum SessionError {
     Memory,
 }
 
+/// Why commands that were given together were not all carried out: how many were, and why the next was not.
+#[derive(Clone, Copy, Debug, PartialEq, Eq, Error)]
+#[error("after {done} commands: {error}")]
+pub struct ApplyAllError {
+    /// How many were carried out.
+    pub done: usize,
+    /// Why the next was not; or that memory was refused for the lines of the events of the last that was.
+    pub error: SessionError,
+}
+
 /// Why the values of a table's entities are not set. If several reasons apply, the first in this order is answered.
 #[derive(Clone, Copy, Debug, PartialEq, Eq, Error)]
 pub enum SetColumnError {

@@ -6,6 +6,7 @@
 #![tactic(auto)]
 
 mod applying;
+mod batches;
 mod columns;
 mod commands;
 mod errors;
@@ -20,7 +21,7 @@ mod watched;
 
 pub use applying::{Answer, Command};
 pub use ecs_model::references::{IdReference, Reference};
-pub use errors::{SendRowsError, SessionError, SetColumnError};
+pub use errors::{ApplyAllError, SendRowsError, SessionError, SetColumnError};
 pub use references::{find_both, find_entity};
 pub use session::Session;
 pub use watch_events::{Event, write_event};

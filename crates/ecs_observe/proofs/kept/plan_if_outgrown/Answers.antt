@@ -1,6 +1,6 @@
 -- A list stays that of its query when it is brought up to date.
 use Rattle.std.specs.Prelude.{length}
-use Rattle.std.proofs.Common.{◌≡◌, ◌∙◌, arith, inl, inr, refl, rules, subst, sym, vec_len}
+use Rattle.std.proofs.Common.{◌≡◌, ◌∙◌, arith, inl, inr, refl, subst, sym}
 use Rattle.query_model.specs.Query.{Query}
 use Rattle.query_plan.specs.Plans.{Plan}
 use Rattle.world_facts.specs.Kept.{AreTablesOf}
@@ -22,8 +22,8 @@ returns-then-not-is_outgrown-clause-synced g c = inl refl
 pub returns-in_err-sync-clause-follows : goal.returns-in_err-sync-clause-follows
 returns-in_err-sync-clause-follows g c = follows_sync c.args.world.now.tables c.args.list.now c.sync.new.list c.sync.result (record { fits = c.requires.list.fits; patterns = c.sync.ensures.patterns; exact = c.sync.ensures.exact; synced = c.sync.ensures.synced; refused = c.sync.ensures.refused; judges = c.sync.ensures.judged; again = c.sync.ensures.again })
 
-pub returns-in_err-put_tables-clause-follows : goal.returns-in_err-put_tables-clause-follows
-returns-in_err-put_tables-clause-follows g c = follows_sync c.args.world.now.tables c.args.list.now c.sync.new.list c.sync.result (record { fits = c.requires.list.fits; patterns = c.sync.ensures.patterns; exact = c.sync.ensures.exact; synced = c.sync.ensures.synced; refused = c.sync.ensures.refused; judges = c.sync.ensures.judged; again = c.sync.ensures.again })
+pub returns-in_default-clause-follows : goal.returns-in_default-clause-follows
+returns-in_default-clause-follows g c = follows_sync c.args.world.now.tables c.args.list.now c.sync.new.list c.sync.result (record { fits = c.requires.list.fits; patterns = c.sync.ensures.patterns; exact = c.sync.ensures.exact; synced = c.sync.ensures.synced; refused = c.sync.ensures.refused; judges = c.sync.ensures.judged; again = c.sync.ensures.again })
 
 pub returns-in_err-planned-clause-follows : goal.returns-in_err-planned-clause-follows
 returns-in_err-planned-clause-follows g c = follows_sync c.args.world.now.tables c.args.list.now c.sync.new.list c.sync.result (record { fits = c.requires.list.fits; patterns = c.sync.ensures.patterns; exact = c.sync.ensures.exact; synced = c.sync.ensures.synced; refused = c.sync.ensures.refused; judges = c.sync.ensures.judged; again = c.sync.ensures.again })
@@ -40,8 +40,8 @@ returns-then-not-is_outgrown-clause-planned g c = inl refl
 pub returns-in_err-sync-clause-planned : goal.returns-in_err-sync-clause-planned
 returns-in_err-sync-clause-planned g c = inl refl
 
-pub returns-in_err-put_tables-clause-planned : goal.returns-in_err-put_tables-clause-planned
-returns-in_err-put_tables-clause-planned g c = inl refl
+pub returns-in_default-clause-planned : goal.returns-in_default-clause-planned
+returns-in_default-clause-planned g c = inl refl
 
 pub returns-in_err-planned-clause-planned : goal.returns-in_err-planned-clause-planned
 returns-in_err-planned-clause-planned g c = inl refl
@@ -53,14 +53,13 @@ returns-clause-planned g c =
     let p : Plan = c.in_ok-planned.planned in
     let asked : p.query ≡ c.query.result.now = c.in_ok-planned.ensures.query in
     let same : p.query ≡ q = asked ∙ c.query.ensures in
-    let long : vec_len c.put_tables.new.tables ≡ length c.put_tables.new.tables.items = search rules in
+    let keys = c.sync.new.list.keys in
     inr (
       subst (IsOutgrown c.args.planned_at.now) c.newest_table-newest.ensures (c.is_outgrown.ensures.outgrown c.if-not-is_outgrown.false),
       subst (IsPlannedNow w) (sym c.replace.ensures) (record {
-        tables = c.put_tables.new.tables.items;
-        are_tables = subst (λ (x : Query). AreTablesOf x w.tables c.put_tables.new.tables.items) (sym same)
-            (subst (AreTablesOf q w.tables) (sym c.in_ok-put_tables.ensures.listed) (record { listed = c.in_ok-sync.ensures.listed q c.requires.list.patterns; rising = c.sync.ensures.once }));
-        planned = subst (λ (x : Query). IsPlannedForKept w x (length c.put_tables.new.tables.items) p) (sym asked) (subst (λ n. IsPlannedForKept w c.query.result.now n p) (c.len.ensures ∙ long) c.in_ok-planned.ensures.planned);
+        tables = keys;
+        are_tables = subst (λ (x : Query). AreTablesOf x w.tables keys) (sym same) (record { listed = c.in_ok-sync.ensures.listed q c.requires.list.patterns; rising = c.sync.ensures.once });
+        planned = subst (λ (x : Query). IsPlannedForKept w x (length keys) p) (sym asked) (subst (λ n. IsPlannedForKept w c.query.result.now n p) c.in-Some.ensures c.in_ok-planned.ensures.planned);
       }),
       c.newest_table-newest.ensures,
     )
@@ -92,20 +91,20 @@ returns-in_err-sync-clause-fitting g c = grind arith
 pub returns-in_err-sync-clause-synced : goal.returns-in_err-sync-clause-synced
 returns-in_err-sync-clause-synced g c = grind arith
 
-pub returns-in_err-put_tables-clause-query : goal.returns-in_err-put_tables-clause-query
-returns-in_err-put_tables-clause-query g c = grind arith
+pub returns-in_default-clause-query : goal.returns-in_default-clause-query
+returns-in_default-clause-query g c = grind arith
 
-pub returns-in_err-put_tables-clause-list : goal.returns-in_err-put_tables-clause-list
-returns-in_err-put_tables-clause-list g c = grind arith
+pub returns-in_default-clause-list : goal.returns-in_default-clause-list
+returns-in_default-clause-list g c = grind arith
 
-pub returns-in_err-put_tables-clause-refused : goal.returns-in_err-put_tables-clause-refused
-returns-in_err-put_tables-clause-refused g c = grind arith
+pub returns-in_default-clause-refused : goal.returns-in_default-clause-refused
+returns-in_default-clause-refused g c = grind arith
 
-pub returns-in_err-put_tables-clause-fitting : goal.returns-in_err-put_tables-clause-fitting
-returns-in_err-put_tables-clause-fitting g c = grind arith
+pub returns-in_default-clause-fitting : goal.returns-in_default-clause-fitting
+returns-in_default-clause-fitting g c = grind arith
 
-pub returns-in_err-put_tables-clause-synced : goal.returns-in_err-put_tables-clause-synced
-returns-in_err-put_tables-clause-synced g c = grind arith
+pub returns-in_default-clause-synced : goal.returns-in_default-clause-synced
+returns-in_default-clause-synced g c = grind arith
 
 pub plan_for_kept-requires : goal.plan_for_kept-requires
 plan_for_kept-requires g c = grind arith
