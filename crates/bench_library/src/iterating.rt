@@ -1,7 +1,7 @@
 //! Entities in twenty tables, gone through by chunks and by rows, with a value written or without, and as many in plain
 //! slices.
 
-use crate::asking::sum_by_asking;
+use crate::asking::{sum_by_asking, sum_by_binding};
 use crate::by_rows::{sum_by_rows, sum_of_first};
 use crate::commands::{Fault, add, fresh, set};
 use crate::is_asked;
@@ -30,7 +30,7 @@ const TEXT: &str = "Position, Velocity";
 const SEARCHED: &str = "Position, Velocity, !A(up)";
 
 /// The workloads.
-static NAMES: [&str; 12] = [
+static NAMES: [&str; 13] = [
     "ids",
     "values",
     "row_ids",
@@ -39,6 +39,7 @@ static NAMES: [&str; 12] = [
     "row_starts",
     "search_starts",
     "asked",
+    "bound",
     "written",
     "plain_ids",
     "plain_values",
@@ -312,6 +313,7 @@ fn sum_of_world(
         "row_starts" => sum_of_row_starts(alloc, world, TEXT, times),
         "search_starts" => sum_of_row_starts(alloc, world, SEARCHED, times),
         "asked" => sum_by_asking(alloc, world, TEXT, times),
+        "bound" => sum_by_binding(alloc, world, TEXT, times),
         "row_ids" => sum_of_rows(alloc, world, false, times),
         "row_values" => sum_of_rows(alloc, world, true, times),
         _ => sum_of_chunks(alloc, world, name == "values", times),

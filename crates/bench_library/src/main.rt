@@ -12,6 +12,7 @@
 //!   - `plain_ids`, `plain_values`: the same over plain slices
 //!   - `starts`, `row_starts`, `search_starts`: only the first chunk, or the first row, by table or by a run of a plan
 //!   - `asked`: each entity of the world is asked whether it is in the query
+//!   - `bound`: each entity of the world is asked for its rows in the query
 //!   - `written`, `plain_written`: one value of each is set to a new one, by table and in plain slices, and then all are read
 //! - `world WORKLOAD SIZE`: carries out commands, 10,000 times where no size is named
 //!   - `values`: entities with three components, whose values are set; each moves to another table and on to a third

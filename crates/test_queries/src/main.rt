@@ -4,6 +4,8 @@
 #![tactic(auto)]
 
 #[cfg(test)]
+mod bound;
+#[cfg(test)]
 mod chunks;
 #[cfg(test)]
 mod judging;

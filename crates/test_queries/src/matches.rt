@@ -103,13 +103,13 @@ pub(crate) fn compare_matches(
 }
 
 /// The last entity of the diamond, and the first after it.
-const LAST: u32 = 67;
+pub(crate) const LAST: u32 = 67;
 
 /// How many entities come.
 const MANY: u32 = 300;
 
 /// The last entity of the diamond goes, and another comes to its index. Many more come.
-fn replace_last(world: &mut World) -> Result<(), CommandError> {
+pub(crate) fn replace_last(world: &mut World) -> Result<(), CommandError> {
     drop(world.delete(first_at(LAST))?);
     for _ in 0..MANY {
         drop(world.fresh()?);

@@ -1,5 +1,6 @@
 //! Rows one at a time, compared with the rows of a query as they print.
 
+use crate::bound::compare_bound;
 use crate::kept::tables_in;
 use crate::matches::compare_matches;
 use crate::numbers::{Sum, sum_of, with, with_fact, with_name, with_value};
@@ -24,9 +25,9 @@ fn with_shown(number: u64, world: &World, field: &Field<'_, Global>) -> u64 {
     }
 }
 
-/// The same with the field at a place, of the row that was given last.
-fn with_field(number: u64, world: &World, rows: &Rows<'_, Global>, place: usize) -> u64 {
-    let Some(field) = rows.field(place) else {
+/// The same with a field of the row that was given last, if it is set.
+pub(crate) fn with_field(number: u64, world: &World, field: Option<Field<'_, Global>>) -> u64 {
+    let Some(field) = field else {
         return with(number, b" [-]");
     };
     let number = with_shown(number, world, &field);
@@ -38,7 +39,7 @@ fn with_field(number: u64, world: &World, rows: &Rows<'_, Global>, place: usize)
 fn with_fields(number: u64, world: &World, rows: &Rows<'_, Global>) -> u64 {
     let mut number = number;
     for place in 0..rows.field_count() {
-        number = with_field(number, world, rows, place);
+        number = with_field(number, world, rows.field(place));
     }
     number
 }
@@ -50,7 +51,7 @@ fn with_binding(number: u64, world: &World, variable: &[u8], entity: u32) -> u64
 }
 
 /// The same with all variables of a query, and the entities of a row.
-fn with_bindings(number: u64, world: &World, query: &Query, entities: &[u32]) -> u64 {
+pub(crate) fn with_bindings(number: u64, world: &World, query: &Query, entities: &[u32]) -> u64 {
     let mut number = number;
     let mut entities = entities;
     for variable in query.variables() {
@@ -124,7 +125,7 @@ fn ask_kept(
 }
 
 /// The rows of a query are those that are printed: also when it is asked again, and from the tables that are kept for
-/// it. Their `$this` are the entities that are in it.
+/// it. Their `$this` are the entities that are in it, and they are the rows of all entities.
 pub(crate) fn compare_rows(
     rt: &impl Abort,
     alloc: Global,
@@ -138,6 +139,7 @@ pub(crate) fn compare_rows(
     let asked = ask(rt, &view, query, asked, printed);
     let asked = ask(rt, &view, query, asked, printed);
     let asked = ask_kept(rt, alloc, &view, query, asked, printed);
+    compare_bound(rt, alloc, &view, query, &asked, printed);
     compare_matches(rt, alloc, &view, asked);
 }
 

@@ -1,4 +1,6 @@
+mod BoundRuns
 mod CurrentQueries
+mod EntityRows
 mod GivenRows
 mod MatchedRows
 mod PulledRows

@@ -1,4 +1,5 @@
 pub mod Asked
+pub mod Binding
 pub mod Coming
 pub mod Fields
 pub mod Found

@@ -1,4 +1,4 @@
-//! Rows of a query, one at a time, and whether an entity is in them.
+//! Rows of a query, one at a time, those of one entity, and whether an entity is in them.
 //!
 //! ```text
 //! let view = WorldView::new(&world);
@@ -20,10 +20,17 @@
 //! // whether one entity is in the query, whatever other rows it has
 //! let mut matcher = asked.matcher(rt.alloc(), &view)?;
 //! let is_ship = matcher.matches(rt.alloc(), &view, heron)?;
+//!
+//! // the rows in which `$this` is one entity
+//! let mut binder = asked.binder(rt.alloc(), &view)?;
+//! binder.bind(rt.alloc(), &view, heron)?;
+//! let mut rows = binder.rows(&view);
 //! ```
 #![tactic(auto)]
 
 mod asked;
+mod binder;
+mod bound_rows;
 mod columns;
 mod fields;
 mod matcher;
@@ -34,6 +41,8 @@ mod view;
 mod way;
 
 pub use asked::Asked;
+pub use binder::Binder;
+pub use bound_rows::BoundRows;
 pub use fields::{FactValue, Field};
 pub use matcher::{MatchError, Matcher};
 pub use rows::Rows;
