@@ -9,8 +9,8 @@ pub use ecs_model::faults::{CommandError, Refusal, SessionRefusal};
 pub use ecs_model::watches::{EventKind, StoredKind};
 pub use ecs_model::{FactKey, Value, built_ins};
 pub use ecs_observe::{
-    Answer, Command, Event, IdReference, Reference, SendRowsError, Session, SessionError,
-    SetColumnError, write_event,
+    Answer, ApplyAllError, Command, Event, IdReference, Reference, SendRowsError, Session,
+    SessionError, SetColumnError, write_event,
 };
 pub use ecs_schema::{Kind, Schema, SchemaError, ValueFault};
 pub use ecs_world::{Changes, ColumnFault, World};
@@ -18,4 +18,6 @@ pub use query_chunks::{Chunk, Chunks, Column, has_chunks};
 pub use query_model::faults::{Fault, FaultKind, QueryFault};
 pub use script_streams::Sink;
 pub use world_query::{SendError, read_query, send_rows, write_rows};
-pub use world_rows::{Asked, FactValue, Field, MatchError, Matcher, Rows, WorldView};
+pub use world_rows::{
+    Asked, Binder, BoundRows, FactValue, Field, MatchError, Matcher, Rows, WorldView,
+};
