@@ -37,7 +37,10 @@ fn sum_bound<A: Allocator>(
         if !rows.next() {
             return (came, number);
         }
-        assert!(rt; rows.entities().first() == Some(&entity));
+        let [this, ..] = rows.entities() else {
+            return (came, number);
+        };
+        assert!(rt; *this == entity);
         number = number.wrapping_add(row_number(world, query, rows));
     }
     (1000, number)
