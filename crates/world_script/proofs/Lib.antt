@@ -8,6 +8,7 @@ pub mod KeptLines
 pub mod Orders
 pub mod ReadLines
 pub mod RunSteps
+pub mod SetColumns
 pub mod Steps
 pub mod SentFronts
 pub mod WaitingEvents

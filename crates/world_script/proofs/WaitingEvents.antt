@@ -19,7 +19,8 @@ use Rattle.ecs_model.specs.stored.Session.{Answer, InWorld, SessionOrder, Sessio
 use Rattle.ecs_observe.specs.Standing.{Standing, session_of}
 use Rattle.world_script.specs.Run.{IsDone, line_effect}
 
-none_of : {T : Type 0} (o : Option T) → is_some o ≡ false → o ≡ None
+-- there is none
+pub none_of : {T : Type 0} (o : Option T) → is_some o ≡ false → o ≡ None
 none_of None e = refl
 none_of (Some x) e = absurd (true≢false e)
 

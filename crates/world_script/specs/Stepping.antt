@@ -3,7 +3,9 @@ use Rattle.std.specs.Prelude.{◌≡◌, ℕ, ◌+◌, ◌≤◌, Bool, true, fa
 use Rattle.ecs_model.specs.Output.{Effect, count_of, output_of}
 use Rattle.ecs_model.specs.Script.{lines_of}
 use Rattle.ecs_model.specs.stored.Session.{SessionState, first_session}
+use Rattle.ecs_world.specs.Standing.{Standing}
 use Rattle.script_streams.specs.Lines.{HasNoEnd}
+use Rattle.table_store.specs.Store.{Store}
 use Rattle.world_query.specs.Sent.{most_usize}
 use Rattle.world_script.specs.declared.errors.StepError.{StepError}
 use Rattle.world_script.specs.declared.errors.StepError.TheVariants.{LineFeed, Memory, TooManyLines}
@@ -18,6 +20,15 @@ pub record Stepping : Type 0 where
   pub refused : ℕ
   pub printed : List ℕ
   pub broken : Bool
+
+-- all that is seen of a stepper: also the tables in which the entities stand, of which the definitions say nothing
+pub record StepperState : Type 0 where
+  pub stepping : Stepping
+  pub tables : Store
+
+-- its world, with the tables
+abbrev pub standing_of : StepperState → Standing
+standing_of s = record { state = ((s.stepping).session).world; tables = s.tables }
 
 -- no line was run yet
 abbrev pub first_stepping : Stepping

@@ -32,16 +32,19 @@ pub struct Stepper<A: Allocator = Global> {
 impl<A: Allocator> Model for Stepper<A> {
     ghost use Rattle.std.specs.Prelude.{◌≡◌, false};
     ghost use Rattle.ecs_observe.specs.Standing.{session_of};
-    ghost use Rattle.world_script.specs.Stepping.{IsStepping, Stepping};
+    ghost use Rattle.world_script.specs.Stepping.{IsStepping, StepperState};
 
-    ghost Value = { Stepping };
+    ghost Value = { StepperState };
 
     ghost view = { λ s. record {
-      session = session_of s.interpreter.session;
-      lines = s.interpreter.summary.lines;
-      refused = s.interpreter.summary.refused;
-      printed = s.printed.items;
-      broken = s.is_broken;
+      stepping = record {
+        session = session_of s.interpreter.session;
+        lines = s.interpreter.summary.lines;
+        refused = s.interpreter.summary.refused;
+        printed = s.printed.items;
+        broken = s.is_broken;
+      };
+      tables = s.interpreter.session.world.tables;
     } };
 
     ghost invariant = { λ s. s.is_broken ≡ false → IsStepping s.interpreter };
@@ -50,7 +53,7 @@ impl<A: Allocator> Model for Stepper<A> {
 impl<A: Allocator + Copy> Stepper<A> {
     /// A new session, in which no line was run.
     pub fn new(alloc: A, random: RandomState) -> Result<Self, AllocError>
-        ensures { IfOk result (λ stepper. stepper ≡ first_stepping) }
+        ensures { IfOk result (λ stepper. stepper.stepping ≡ first_stepping) }
     {
         let interpreter = Interpreter::new(alloc, random)?;
         Ok(Stepper {
@@ -62,8 +65,8 @@ impl<A: Allocator + Copy> Stepper<A> {
 
     /// Runs a line, which has no line feed, adds what it prints to the output, and answers whether it was refused.
     pub fn line(&mut self, line: &[u8]) -> Result<bool, StepError>
-        ensures ran { IfOk result (Steps line.now self.old self.new) }
-        ensures stops { IfErr result (StopsStepping line.now self.old self.new) }
+        ensures ran { IfOk result (Steps line.now self.old.stepping self.new.stepping) }
+        ensures stops { IfErr result (StopsStepping line.now self.old.stepping self.new.stepping) }
     {
         if has_end(line) {
             return Err(StepError::LineFeed);
@@ -87,28 +90,28 @@ impl<A: Allocator + Copy> Stepper<A> {
 impl<A: Allocator> Stepper<A> {
     /// What was printed since it was last forgotten.
     pub fn output(&self) -> &[u8]
-        ensures { result.now ≡ self.now.printed }
+        ensures { result.now ≡ self.now.stepping.printed }
     {
         self.printed.as_slice()
     }
 
     /// Forgets what was printed.
     pub fn forget(&mut self)
-        ensures { self.new ≡ forgotten self.old }
+        ensures { self.new ≡ record self.old { stepping = forgotten self.old.stepping } }
     {
         self.printed.clear();
     }
 
     /// How many lines were run, and how many of them were refused.
     pub fn summary(&self) -> Summary
-        ensures { result ≡ record { lines = self.now.lines; refused = self.now.refused } }
+        ensures { result ≡ record { lines = self.now.stepping.lines; refused = self.now.stepping.refused } }
     {
         self.interpreter.summary
     }
 
     /// Whether memory was refused in a line, so that no more are run.
     pub fn is_broken(&self) -> bool
-        ensures { result ≡ self.now.broken }
+        ensures { result ≡ self.now.stepping.broken }
     {
         self.is_broken
     }

@@ -2,6 +2,7 @@ use Rattle.std.proofs.Common.{refl, ap}
 use Rattle.std.specs.Prelude.{Some}
 use Rattle.ecs_model.specs.steps.Step.{Fresh}
 use Rattle.ecs_observe.specs.Answers.{born}
+use Rattle.world_script.specs.Stepping.{StepperState}
 use Rattle.world_script.proofs.CommandEvents.{commands, waits_err}
 use Rattle.world_script.proofs.stepping.Stepper.fresh.Goals as goal
 
@@ -15,4 +16,4 @@ returns g c =
     let none = (c.self.invariant c.if-self.false).none_wait in
     let told = c.tell_printed.ensures in
     commands born (λ e. Some e) (λ x. refl) (λ e. refl) Fresh c.self.inside.interpreter.session c.fresh-answer.new.self none _ _ _ refl refl (ap (λ n. n.lines) told.summary)
-    (ap (λ n. n.refused) told.summary) _ c.self.view_is c.fresh-answer.result c.tell_printed.result c.fresh-answer.ensures.answers told.told
+    (ap (λ n. n.refused) told.summary) _ (ap (λ (v : StepperState). v.stepping) c.self.view_is) c.fresh-answer.result c.tell_printed.result c.fresh-answer.ensures.answers told.told

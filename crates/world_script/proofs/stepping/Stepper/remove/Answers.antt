@@ -2,6 +2,7 @@ use Rattle.std.proofs.Common.{refl, ap}
 use Rattle.std.specs.Prelude.{None}
 use Rattle.ecs_model.specs.steps.Step.{Remove}
 use Rattle.ecs_observe.specs.Answers.{none_born}
+use Rattle.world_script.specs.Stepping.{StepperState}
 use Rattle.world_script.proofs.CommandEvents.{commands, waits_err}
 use Rattle.world_script.proofs.stepping.Stepper.remove.Goals as goal
 
@@ -15,4 +16,4 @@ returns g c =
     let none = (c.self.invariant c.if-self.false).none_wait in
     let told = c.tell_printed.ensures in
     commands none_born (λ _. None) (λ x. refl) (λ e. refl) (Remove c.args.entity c.args.id) c.self.inside.interpreter.session c.remove-answer.new.self none _ _ _ refl refl (ap (λ n. n.lines) told.summary)
-    (ap (λ n. n.refused) told.summary) _ c.self.view_is c.remove-answer.result c.tell_printed.result c.remove-answer.ensures.answers told.told
+    (ap (λ n. n.refused) told.summary) _ (ap (λ (v : StepperState). v.stepping) c.self.view_is) c.remove-answer.result c.tell_printed.result c.remove-answer.ensures.answers told.told
