@@ -1,2 +1,5 @@
 pub mod Fields
+pub mod Numbers
 pub mod RunFronts
+pub mod SetTables
+pub mod Written

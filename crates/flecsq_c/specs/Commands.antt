@@ -3,7 +3,7 @@ use Rattle.std.specs.Prelude.{◌≡◌, ◌⊎◌, ℕ, ◌+◌, ◌*◌, ◌^�
 use Rattle.ecs_id.specs.declared.EntityId.{EntityId}
 use Rattle.ecs_id.specs.Id.{Id, IsPacking, packed}
 use Rattle.ecs_model.specs.World.{is_alive, named}
-use Rattle.ecs_model.specs.steps.Step.{Command, SetValue}
+use Rattle.ecs_model.specs.steps.Step.{Command, Entity, SetValue}
 use Rattle.ecs_observe.specs.declared.errors.SessionError.{SessionError}
 use Rattle.world_script.specs.Commanding.{Commands}
 use Rattle.world_script.specs.Stepping.{Stepping}
@@ -47,6 +47,12 @@ pub record Creates (command : Command) (before after : ℕ) (old new : Stepping)
   pub told : status ≡ command_status answer
   pub done : Commands command old new answer
   pub put : Puts answer before after
+
+-- so was that of an entity with a name, if the name is text
+abbrev pub CreatesNamed : List ℕ → ℕ → ℕ → Stepping → Stepping → ℤ → Type 0
+CreatesNamed name before after old new status =
+    Creates (Entity name) before after old new status
+    ⊎ (¬ IsUtf8 name × (after ≡ before) × (new ≡ old) × (status ≡ unknown))
 
 -- the live entity of a name was put, or there is none
 pub record Finds (name : List ℕ) (before after : ℕ) (old new : Stepping) (status : ℤ) : Type 0 where

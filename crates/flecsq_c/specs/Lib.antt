@@ -1,6 +1,9 @@
 pub mod Held
+pub mod Asking
 pub mod Calls
 pub mod Commands
+pub mod Matches
 pub mod Memory
 pub mod Runs
 pub mod Statuses
+pub mod Tables

@@ -4,8 +4,8 @@
 ghost use Rattle.std.specs.Prelude.{◌≡◌, ◌^◌, ◌<◌, ◌≤◌, IfSome, None, length, take};
 ghost use Rattle.ecs_id.specs.Id.{IsPacking, packed};
 ghost use Rattle.ecs_model.specs.steps.Step.{Add, Delete, Fresh, Remove};
-ghost use Rattle.flecsq_c.specs.Calls.{ByHandle, held_by};
-ghost use Rattle.flecsq_c.specs.Commands.{Creates, Finds, OnEntity, OnFact, Sets, entity_number};
+ghost use Rattle.flecsq_c.specs.Calls.{ByStepper, held_by};
+ghost use Rattle.flecsq_c.specs.Commands.{Creates, CreatesNamed, Finds, OnEntity, OnFact, Sets, entity_number};
 
 use crate::handle::Flecsq;
 use crate::holding::{put, taken};
@@ -25,7 +25,7 @@ pub extern "C" fn flecsq_find(
     name: &[u8],
     entity: &mut u64,
 ) -> i32
-    ensures { ByHandle (Finds name.now entity.old entity.new) (held_by handle.old) (held_by handle.new) result }
+    ensures { ByStepper (Finds name.now entity.old entity.new) (held_by handle.old) (held_by handle.new) result }
 {
     let Some(engine) = taken(alloc, handle) else {
         return CLOSED;
@@ -38,7 +38,7 @@ pub extern "C" fn flecsq_find(
 /// Creates an entity without a name and without facts.
 #[unsafe(no_mangle)]
 pub extern "C" fn flecsq_new(alloc: Global, handle: &mut Flecsq, entity: &mut u64) -> i32
-    ensures { ByHandle (Creates Fresh entity.old entity.new) (held_by handle.old) (held_by handle.new) result }
+    ensures { ByStepper (Creates Fresh entity.old entity.new) (held_by handle.old) (held_by handle.new) result }
 {
     let Some(mut engine) = taken(alloc, handle) else {
         return CLOSED;
@@ -48,10 +48,28 @@ pub extern "C" fn flecsq_new(alloc: Global, handle: &mut Flecsq, entity: &mut u6
     status
 }
 
+/// Creates an entity with a name and without facts.
+#[unsafe(no_mangle)]
+pub extern "C" fn flecsq_entity_named(
+    alloc: Global,
+    handle: &mut Flecsq,
+    name: &[u8],
+    entity: &mut u64,
+) -> i32
+    ensures { ByStepper (CreatesNamed name.now entity.old entity.new) (held_by handle.old) (held_by handle.new) result }
+{
+    let Some(mut engine) = taken(alloc, handle) else {
+        return CLOSED;
+    };
+    let status = create_named(&mut engine.stepper, name, entity);
+    put(handle, engine);
+    status
+}
+
 /// Adds a fact, and the facts that traits require with it.
 #[unsafe(no_mangle)]
 pub extern "C" fn flecsq_add(alloc: Global, handle: &mut Flecsq, entity: u64, id: u64) -> i32
-    ensures { ByHandle (OnFact Add entity id) (held_by handle.old) (held_by handle.new) result }
+    ensures { ByStepper (OnFact Add entity id) (held_by handle.old) (held_by handle.new) result }
 {
     let Some(mut engine) = taken(alloc, handle) else {
         return CLOSED;
@@ -70,7 +88,7 @@ pub extern "C" fn flecsq_set(
     id: u64,
     values: &[i64],
 ) -> i32
-    ensures { ByHandle (Sets entity id values.now) (held_by handle.old) (held_by handle.new) result }
+    ensures { ByStepper (Sets entity id values.now) (held_by handle.old) (held_by handle.new) result }
 {
     let Some(mut engine) = taken(alloc, handle) else {
         return CLOSED;
@@ -83,7 +101,7 @@ pub extern "C" fn flecsq_set(
 /// Removes a fact, if it is held.
 #[unsafe(no_mangle)]
 pub extern "C" fn flecsq_remove(alloc: Global, handle: &mut Flecsq, entity: u64, id: u64) -> i32
-    ensures { ByHandle (OnFact Remove entity id) (held_by handle.old) (held_by handle.new) result }
+    ensures { ByStepper (OnFact Remove entity id) (held_by handle.old) (held_by handle.new) result }
 {
     let Some(mut engine) = taken(alloc, handle) else {
         return CLOSED;
@@ -96,7 +114,7 @@ pub extern "C" fn flecsq_remove(alloc: Global, handle: &mut Flecsq, entity: u64,
 /// Deletes an entity, and what its relationships say to delete with it.
 #[unsafe(no_mangle)]
 pub extern "C" fn flecsq_delete(alloc: Global, handle: &mut Flecsq, entity: u64) -> i32
-    ensures { ByHandle (OnEntity Delete entity) (held_by handle.old) (held_by handle.new) result }
+    ensures { ByStepper (OnEntity Delete entity) (held_by handle.old) (held_by handle.new) result }
 {
     let Some(mut engine) = taken(alloc, handle) else {
         return CLOSED;
@@ -107,7 +125,7 @@ pub extern "C" fn flecsq_delete(alloc: Global, handle: &mut Flecsq, entity: u64)
 }
 
 fn find(stepper: &Stepper<Global>, name: &[u8], entity: &mut u64) -> i32
-    ensures { Finds name.now entity.old entity.new stepper.now stepper.now result }
+    ensures { Finds name.now entity.old entity.new stepper.now.stepping stepper.now.stepping result }
 {
     let Ok(name) = str::from_utf8(name) else {
         return UNKNOWN;
@@ -122,7 +140,7 @@ fn find(stepper: &Stepper<Global>, name: &[u8], entity: &mut u64) -> i32
 }
 
 fn create(stepper: &mut Stepper<Global>, entity: &mut u64) -> i32
-    ensures { Creates Fresh entity.old entity.new stepper.old stepper.new result }
+    ensures { Creates Fresh entity.old entity.new stepper.old.stepping stepper.new.stepping result }
 {
     let answer = stepper.fresh();
     if let Ok(created) = answer {
@@ -131,8 +149,21 @@ fn create(stepper: &mut Stepper<Global>, entity: &mut u64) -> i32
     command_status(answer)
 }
 
+fn create_named(stepper: &mut Stepper<Global>, name: &[u8], entity: &mut u64) -> i32
+    ensures { CreatesNamed name.now entity.old entity.new stepper.old.stepping stepper.new.stepping result }
+{
+    let Ok(name) = str::from_utf8(name) else {
+        return UNKNOWN;
+    };
+    let answer = stepper.entity(name);
+    if let Ok(created) = answer {
+        *entity = created.packed();
+    }
+    command_status(answer)
+}
+
 fn add(stepper: &mut Stepper<Global>, entity: u64, id: u64) -> i32
-    ensures { OnFact Add entity id stepper.old stepper.new result }
+    ensures { OnFact Add entity id stepper.old.stepping stepper.new.stepping result }
 {
     match both(entity, id) {
         Some(both) => command_status(stepper.add(both.0, both.1)),
@@ -141,7 +172,7 @@ fn add(stepper: &mut Stepper<Global>, entity: u64, id: u64) -> i32
 }
 
 fn set(stepper: &mut Stepper<Global>, entity: u64, id: u64, values: &[i64]) -> i32
-    ensures { Sets entity id values.now stepper.old stepper.new result }
+    ensures { Sets entity id values.now stepper.old.stepping stepper.new.stepping result }
 {
     if values.len() > MOST_VALUES {
         return NUMBER;
@@ -155,7 +186,7 @@ fn set(stepper: &mut Stepper<Global>, entity: u64, id: u64, values: &[i64]) -> i
 }
 
 fn remove(stepper: &mut Stepper<Global>, entity: u64, id: u64) -> i32
-    ensures { OnFact Remove entity id stepper.old stepper.new result }
+    ensures { OnFact Remove entity id stepper.old.stepping stepper.new.stepping result }
 {
     match both(entity, id) {
         Some(both) => command_status(stepper.remove(both.0, both.1)),
@@ -164,7 +195,7 @@ fn remove(stepper: &mut Stepper<Global>, entity: u64, id: u64) -> i32
 }
 
 fn delete(stepper: &mut Stepper<Global>, entity: u64) -> i32
-    ensures { OnEntity Delete entity stepper.old stepper.new result }
+    ensures { OnEntity Delete entity stepper.old.stepping stepper.new.stepping result }
 {
     match EntityId::unpack(entity) {
         Some(entity) => command_status(stepper.delete(entity)),

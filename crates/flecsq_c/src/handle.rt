@@ -1,6 +1,6 @@
 //! What C holds: a pointer to an engine on the heap, or none; and bytes by their pointer.
 //!
-//! All raw pointers of the crate stand here.
+//! All raw pointers of the crate stand here and in `lent`.
 
 ghost use Rattle.std.specs.Prelude.{◌≡◌, None, Option, Some, length, option_map};
 ghost use denote.RawPtr.{block_ptr};
@@ -93,7 +93,7 @@ impl Span {
 }
 
 /// Where the first of these bytes is.
-fn start_of(bytes: &[u8]) -> *const u8
+pub(crate) fn start_of(bytes: &[u8]) -> *const u8
     ensures { result ≡ block_ptr bytes.entry.ref_ptr.0 bytes.entry.ref_ptr.1 }
 {
     bytes.as_ptr()

@@ -4,16 +4,20 @@
 #![tactic(auto)]
 
 ghost use Rattle.std.specs.Prelude.{◌≡◌, None, codes, length};
-ghost use Rattle.flecsq_c.specs.Calls.{ByHandle, CopiesOutput, Forgets, LendsOutput, Opens, RunsLine, held_by};
+ghost use Rattle.flecsq_c.specs.Calls.{ByStepper, CopiesOutput, Forgets, LendsOutput, Opens, RunsLine, held_by};
 ghost use Rattle.flecsq_c.specs.Runs.{RunsScript};
 
+mod asking;
 mod commands;
 mod engine;
 mod handle;
 mod holding;
+mod lent;
 mod memory;
+mod numbered;
 mod seed;
 mod status;
+mod tables;
 
 use engine::made;
 use handle::{Flecsq, Span};
@@ -56,7 +60,7 @@ pub extern "C" fn flecsq_close(alloc: Global, handle: &mut Flecsq)
 /// Runs a line of a script, which has no line feed. What it prints comes after the output.
 #[unsafe(no_mangle)]
 pub extern "C" fn flecsq_line(alloc: Global, handle: &mut Flecsq, line: &[u8]) -> i32
-    ensures { ByHandle (RunsLine line.now) (held_by handle.old) (held_by handle.new) result }
+    ensures { ByStepper (RunsLine line.now) (held_by handle.old) (held_by handle.new) result }
 {
     let Some(mut engine) = taken(alloc, handle) else {
         return CLOSED;
@@ -189,6 +193,3 @@ pub extern "C" fn flecsq_version(out: &mut Span)
 pub extern "C" fn flecsq_explain(status: i32, out: &mut Span) {
     *out = Span::of(status_text(status).as_bytes());
 }
-
-#[cfg(test)]
-mod tests;
