@@ -49,14 +49,25 @@ typedef struct flecsq {
 /* What calls answer. */
 enum {
     FLECSQ_OK = 0,
-    FLECSQ_REFUSED = 1,   /* the line or command was refused, and changed nothing: of a line the output says why */
+    FLECSQ_REFUSED = 1,   /* the line, command or text was refused, and changed nothing: of a line the output says why */
     FLECSQ_MEMORY = 2,    /* malloc or realloc gave nothing */
     FLECSQ_CLOSED = 3,    /* the handle holds no engine */
-    FLECSQ_UNKNOWN = 4,   /* no entity has the name, or a number is that of no entity or no id */
+    FLECSQ_UNKNOWN = 4,   /* no entity has the name, or a number is that of no entity, id or query */
     FLECSQ_ROOM = 5,      /* the output doesn't fit in the buffer */
     FLECSQ_TOO_LONG = 6,  /* the script has more than 16,777,216 bytes, or the engine has run SIZE_MAX lines */
     FLECSQ_LINE_FEED = 7, /* a line feed stands in the line */
-    FLECSQ_NUMBER = 8     /* more than eight values */
+    FLECSQ_NUMBER = 8,    /* more than eight values */
+    FLECSQ_STALE = 9,     /* what the query names was deleted, or has other traits now: read the query again */
+    FLECSQ_NO_THIS = 10,  /* the query has no `$this` */
+    FLECSQ_NOT_TABLED = 11, /* the rows of the query don't come by table */
+    FLECSQ_DEAD = 12,     /* the entity isn't alive */
+    FLECSQ_GONE = 13,     /* the table isn't there any more */
+    FLECSQ_NOT_HELD = 14, /* the table doesn't hold the id, or has no values of it */
+    FLECSQ_NO_DATA = 15,  /* the id has no fields */
+    FLECSQ_WATCHED = 16,  /* a stored query observes that values of the id are set: set them one by one */
+    FLECSQ_BRINGS = 17,   /* setting the id may bring other facts, by With or a mirror: set them one by one */
+    FLECSQ_SIZE = 18,     /* the bytes aren't one value for each row */
+    FLECSQ_FULL = 19      /* the world has carried out nearly 2^64 commands */
 };
 
 /* Bytes that are lent. Nobody frees them. */
@@ -134,6 +145,85 @@ int32_t flecsq_remove(flecsq *handle, uint64_t entity, uint64_t id);
 
 /* Deletes an entity, and what goes with it. */
 int32_t flecsq_delete(flecsq *handle, uint64_t entity);
+
+/* Queries, and their rows as data.
+ *
+ * A query is read once and has a number. While the world changes it is asked as often as wanted, in its tables: all entities with the same ids
+ * stand in one table, and for each id with fields the table has a column of values, one for each of its entities, in the same order.
+ *
+ * What a table and a column point to is lent, and nobody frees it: until the next `flecsq_line`, command (`flecsq_new` to `flecsq_delete`,
+ * `flecsq_entity_named`), `flecsq_set_column`, `flecsq_open` or `flecsq_close` with this handle. Nobody writes to it. The calls here print nothing. */
+
+/* An entity in a table. */
+typedef struct flecsq_entity {
+    uint32_t index;
+    uint16_t generation;
+} flecsq_entity;
+
+/* The number of an entity in a table, as commands take it. */
+static inline uint64_t flecsq_number(flecsq_entity entity) { return (uint64_t)entity.generation << 32 | entity.index; }
+
+/* A table: its entities, one for each row, how many these are, and by which key other calls find it (`serial_low`, `serial_high`, `slot`). A key stays
+ * that of this table for ever, and is never that of another one. So a table may be kept for longer than its pointer, and another count may stand there. */
+typedef struct flecsq_table {
+    const flecsq_entity *entities;
+    size_t count;
+    uint64_t serial_low;
+    uint64_t serial_high;
+    uint32_t slot;
+} flecsq_table;
+
+/* The values of an id in a table, one for each row: where they are, how many bytes all have, and how many one has. In a value the fields follow one
+ * another without gaps, each as its kind is in little-endian memory. Nothing is promised of alignment: copy a value by memcpy. */
+typedef struct flecsq_values {
+    const uint8_t *at;
+    size_t len;
+    size_t size;
+} flecsq_values;
+
+/* Makes an entity with a name of so many bytes, and gives it, as the line `entity NAME` does: a command, with what all commands answer. UNKNOWN where the
+ * bytes are no UTF-8. Unless it answers OK, `entity` is as it was. */
+int32_t flecsq_entity_named(flecsq *handle, const uint8_t *name, size_t len, uint64_t *entity);
+
+/* Reads the text of a query, of so many bytes, and gives its number: 1, 2, 3 .., none of which this engine gives twice. It stays that of the query
+ * until `flecsq_drop`, and its memory goes with the engine at the latest. It is no stored query: no line knows it, and what it names may be deleted.
+ *
+ * Answers OK, REFUSED, NO_THIS, CLOSED or MEMORY. After REFUSED the text has a fault, or is no UTF-8: the line `query TEXT` says which. Unless it answers
+ * OK, `query` is as it was. */
+int32_t flecsq_query(flecsq *handle, const uint8_t *text, size_t len, uint64_t *query);
+
+/* Frees a query, whose number is that of none from now on.
+ *
+ * Answers OK, UNKNOWN or CLOSED. */
+int32_t flecsq_drop(flecsq *handle, uint64_t query);
+
+/* Gives the tables whose rows are those of a query: each entity in them is `$this` of one row, and there is no other row. They come in no promised
+ * order, and the empty ones are left out. `tables` has place for `room` of them, and `count` gets how many there are in all. It takes no memory.
+ *
+ * Rows come by table where `$this` is the only variable, nothing has `cascade`, and each term, in groups too, asks `$this` itself for one id by name: no
+ * `up`, no wildcard as `*`, no followed relationship, no inherited component. Rows of other queries print by a line, and `flecsq_matches` asks them.
+ *
+ * Answers OK; ROOM, where there are more than `room`, the first of which were written; or UNKNOWN, STALE, NOT_TABLED or CLOSED, and then nothing was
+ * written. */
+int32_t flecsq_tables(flecsq *handle, uint64_t query, flecsq_table *tables, size_t room, size_t *count);
+
+/* Gives the values of an id in a table: of any that it holds, whether a query names it or not. Of a table it reads the key alone, so `count` may be that of
+ * an earlier call: `len` divided by `size` is how many rows there are now.
+ *
+ * Answers OK, UNKNOWN (of the id), GONE, NOT_HELD or CLOSED. Unless it answers OK, `values` are as they were. */
+int32_t flecsq_column(flecsq *handle, const flecsq_table *table, uint64_t id, flecsq_values *values);
+
+/* Sets the values of an id for all rows of a table, as `flecsq_set` of each of its entities would, by row. The bytes are as `flecsq_column` gives them, `len`
+ * of them in all. They aren't those that it lends: compute into memory of your own. It takes no memory, and monitors don't hear of it.
+ *
+ * Answers OK, or the first that applies of UNKNOWN (of the id), WATCHED, GONE, NOT_HELD, NO_DATA, BRINGS, SIZE and FULL; or CLOSED; or MEMORY, where a
+ * line or command before was refused memory and the engine runs no more. Unless it answers OK, nothing has changed. */
+int32_t flecsq_set_column(flecsq *handle, const flecsq_table *table, uint64_t id, const uint8_t *bytes, size_t len);
+
+/* Tells whether an entity is `$this` of some row of a query, of any that `flecsq_query` reads. No other entity is tried.
+ *
+ * Answers OK, UNKNOWN (of the query or the entity), STALE, DEAD, CLOSED or MEMORY. Unless it answers OK, `is` is as it was. */
+int32_t flecsq_matches(flecsq *handle, uint64_t query, uint64_t entity, bool *is);
 
 /* What was run of a script: how many bytes were written to `output`, and how many lines were run and refused. */
 typedef struct flecsq_ran {

@@ -72,16 +72,21 @@ NO_COMMENTS = re.compile(r"/\*.*?\*/", re.S)
 OF_HEADER = re.compile(r"^(\w+) (flecsq_\w+)\(([^)]*)\);$", re.M)
 OF_SOURCE = re.compile(r'#\[unsafe\(no_mangle\)\]\s*pub extern "C" fn (\w+)\(([^)]*)\)(?: -> (\w+))?')
 STRUCT = re.compile(r"typedef struct (\w+) \{(.*?)\} \1;", re.S)
-OF_RATTLE = re.compile(r"#\[repr\(C\)\]\s*(?:#\[derive[^\n]*\]\s*)?pub struct (\w+) \{(.*?)^\}", re.S | re.M)
+# (that of an entity has no `repr(C)`: its size is proved, and its fields are read from C)
+OF_RATTLE = re.compile(r"(?:#\[repr\(C\)\]\s*#\[derive[^\n]*\]\s*pub struct (?=\w)|pub struct (?=EntityId ))(\w+) \{(.*?)^\}", re.S | re.M)
 STATUS = re.compile(r"^ *FLECSQ_(\w+) = (\d+)", re.M)
 CONSTANT = re.compile(r"^pub const (\w+): i32 = (\d+);", re.M)
 
 TYPES = {
     **{"i32": "int32_t", "u64": "uint64_t", "usize": "size_t", "bool": "bool", None: "void", "*mut Opaque": "void *", "*const u8": "const uint8_t *"},
-    **{"&mut Flecsq": "flecsq *", "&mut Span": "flecsq_span *", "&mut Ran": "flecsq_ran *", "&mut u64": "uint64_t *"},
-    **{"Flecsq": "flecsq", "Span": "flecsq_span", "Ran": "flecsq_ran"},
+    **{"u16": "uint16_t", "u32": "uint32_t", "*const EntityId": "const flecsq_entity *", "&mut u64": "uint64_t *", "&mut usize": "size_t *"},
+    **{"&mut bool": "bool *", "&mut Flecsq": "flecsq *", "&mut Span": "flecsq_span *", "&mut Ran": "flecsq_ran *", "&mut Column": "flecsq_values *"},
+    **{"&Table": "const flecsq_table *", "Flecsq": "flecsq", "Span": "flecsq_span", "Ran": "flecsq_ran", "Column": "flecsq_values"},
+    **{"Table": "flecsq_table", "EntityId": "flecsq_entity"},
 }
-SLICES = {"&[u8]": "const uint8_t *", "&mut [u8]": "uint8_t *", "&[i64]": "const int64_t *"}
+SLICES = {"&[u8]": "const uint8_t *", "&mut [u8]": "uint8_t *", "&[i64]": "const int64_t *", "&mut [Table]": "flecsq_table *"}
+# (what C sees of them)
+CRATES = (library.CRATE, "ecs_id")
 
 
 def type_and_name(declared):
@@ -100,11 +105,13 @@ def functions_of_header():
 PYTHON_TYPES = {
     **{"void": None, "int32_t": ctypes.c_int32, "uint64_t": ctypes.c_uint64, "size_t": ctypes.c_size_t, "flecsq *": flecsq.HANDLE},
     **{"flecsq_span *": flecsq.SPAN, "flecsq_ran *": ctypes.POINTER(flecsq.Ran), "const uint8_t *": ctypes.c_char_p, "uint8_t *": ctypes.c_char_p},
+    **{"uint64_t *": flecsq.NUMBER, "size_t *": flecsq.SIZE, "bool *": ctypes.POINTER(ctypes.c_bool), "const int64_t *": ctypes.POINTER(ctypes.c_int64)},
+    **{"flecsq_table *": flecsq.KEY, "const flecsq_table *": flecsq.KEY, "flecsq_values *": ctypes.POINTER(flecsq.Values)},
 }
 
 
 def sources():
-    return [library.read(it) for it in sorted(glob.glob(os.path.join(TOP, "crates", library.CRATE, "src", "*.rt")))]
+    return [library.read(it) for crate in CRATES for it in sorted(glob.glob(os.path.join(TOP, "crates", crate, "src", "*.rt")))]
 
 
 def c_types(takes):
@@ -139,7 +146,7 @@ def the_header_is_that_of_the_sources(room):
     """Functions with their types, in Python too, structs with their fields, statuses with their numbers."""
     statuses = dict(STATUS.findall(library.read(HEADER)))
     constants = dict(it for text in sources() for it in CONSTANT.findall(text))
-    of_python = {name: tuple(PYTHON_TYPES[it] for it in types) for name, types in functions_of_header().items() if name in flecsq.FUNCTIONS}
+    of_python = {name: tuple(PYTHON_TYPES[it] for it in types) for name, types in functions_of_header().items()}
     pairs = [(functions_of_header(), functions_of_sources()), (structs_of_header(), structs_of_sources()), (statuses, constants), (of_python, flecsq.FUNCTIONS)]
     for of_header, of_sources in pairs:
         if of_header != of_sources or not of_header:
@@ -167,8 +174,9 @@ def sizes_and_offsets_are_those_of_the_header(room):
     ran(tool("gcc"), *C, "-I", os.path.dirname(HEADER), "-fsyntax-only", header)
     ran(tool("g++"), *CPP, "-I", os.path.dirname(HEADER), "-fsyntax-only", "-x", "c++", header)
     names = {"flecsq": flecsq.Handle, "flecsq_span": flecsq.Span, "flecsq_ran": flecsq.Ran}
+    names.update({"flecsq_entity": flecsq.Entity, "flecsq_table": flecsq.Key, "flecsq_values": flecsq.Values})
     told = re.findall(r"^LIES\((\w+), (\w+), (\d+), (\d+)\);", library.read(header), re.M)
-    return len(told) == 7 and all(
+    return len(told) == 17 and all(
         (getattr(names[kind], field).offset, getattr(names[kind], field).size) == (int(at), int(size)) for kind, field, at, size in told
     )
 
@@ -200,21 +208,21 @@ def printed(name):
         return file.read()
 
 
-def c_example_runs(room):
-    return ran(compiled(room, os.path.join(EXAMPLES, "cellar.c"))) == printed("cellar")
+def c_examples_run(room):
+    return all(ran(compiled(room, os.path.join(EXAMPLES, f"{it}.c"))) == printed(it) for it in ("cellar", "regatta"))
 
 
 def cpp_example_runs(room):
     return ran(compiled(room, os.path.join(EXAMPLES, "chase.cpp"))) == printed("chase")
 
 
-def python_example_runs(room):
-    words = (sys.executable, os.path.join(EXAMPLES, "market.py"), shared())
-    return ran(*words, env={**os.environ, "PYTHONPATH": os.path.join(TOP, "tools")}) == printed("market")
+def python_examples_run(room):
+    environment = {**os.environ, "PYTHONPATH": os.path.join(TOP, "tools")}
+    return all(ran(sys.executable, os.path.join(EXAMPLES, f"{it}.py"), shared(), env=environment) == printed(it) for it in ("market", "orchard"))
 
 
 def examples_leak_nothing(room):
-    for source, name in (("cellar.c", "cellar"), ("chase.cpp", "chase")):
+    for source, name in (("cellar.c", "cellar"), ("regatta.c", "regatta"), ("chase.cpp", "chase")):
         if ran(tool("valgrind"), *VALGRIND[1:], compiled(room, os.path.join(EXAMPLES, source))) != printed(name):
             return False
     return True
@@ -229,7 +237,7 @@ def python_docstring_is_true(room):
     text = re.sub(r"^    >>> from flecsq import [^\n]*\n", "", flecsq.__doc__, flags=re.M)
     test = doctest.DocTestParser().get_doctest(text, given, "flecsq.py", "flecsq.py", 0)
     failed, tried = doctest.DocTestRunner().run(test)
-    return not failed and tried == 4
+    return not failed and tried == 6
 
 
 def python_tells_what_is_wrong(room):
@@ -251,6 +259,35 @@ def python_tells_what_is_wrong(room):
     script = "entity A\n" + "show A\n" * 100_000
     is_whole = flecsq.run(script, shared()) == b"show A\n" * 100_000
     return is_whole and told[2:4] == ["#64.0", "show #64.0"] and all(len(it) > 10 for it in (told[0], told[1], told[4])) and len(set(told)) == 5
+
+
+def python_ends_what_is_lent(room):
+    """A column that is read after a command, one of which a slice is kept, rows of another thread, and a query that is gone."""
+    def said(call, *given):
+        try:
+            return call(*given)
+        except (ValueError, LookupError, BufferError, flecsq.Refused) as why:
+            return type(why)
+
+    with flecsq.Session(shared()) as world:
+        place, kind = world.component("Place", x="i32", y="i32"), world.component("Kind", code="u8", size="u32")
+        bird = world.entity("Bird")
+        world.set(bird, place, 3, -4)
+        world.set(bird, kind, 7, 2**31)
+        birds = world.query("Place")
+        (table,) = birds.tables()
+        column, coded = table.column(place), table.column(kind)
+        is_seen = column.tolist() == [[3, -4]] and coded.shape == (1, 5) and table.values(kind) == [(7, 2**31)] and table.entities == [bird]
+        is_seen = is_seen and column.readonly and len(table) == 1 and birds.rows() == [(bird,)]
+        kept = column[:1]
+        told = [said(world.set, bird, place, 1, 1), said(column.tolist), kept.tolist()]
+        del kept
+        told += [said(world.set, bird, place, 1, 1), said(coded.tolist), said(lambda: table.entities), table.values(place), bird in birds]
+        told += [said(world.query, "Place,"), said(world.add, bird, 0), said(world.find, "Cat"), said(table.set, place, b"1"), world.told()]
+        birds.drop()
+        told += [said(birds.rows)]
+    wanted = [BufferError, ValueError, [[3, -4]], None, ValueError, ValueError, [(1, 1)], True]
+    return is_seen and told == [*wanted, flecsq.Refused, LookupError, LookupError, ValueError, "", LookupError]
 
 
 def scripts():
@@ -319,13 +356,16 @@ def instructions(program, function):
 
 
 def a_line_costs_what_it_costs_in_a_script(room):
-    """Up to a fifth more; by numbers it costs less, and where the output is a few instructions."""
+    """Up to a fifth more; by numbers it costs less, in a column a few instructions, and where the output is a few in all."""
     program = compiled(room, os.path.join(HERE, "costs.c"))
-    functions = ("by_lines", "by_numbers", "without_them", "with_them", "of_output")
-    by_lines, by_numbers, without_them, with_them, of_output = (instructions(program, it) // 2000 for it in functions)
-    in_script = with_them - without_them
-    print(f"a set of a held component takes {by_lines} instructions as a line, {by_numbers} by numbers, {in_script} in a script; output {of_output}")
-    return 100 < by_lines < 1.2 * in_script and by_numbers < in_script and of_output < 50
+    functions = ("by_lines", "by_numbers", "by_column", "of_column", "by_matches", "without_them", "with_them", "of_output")
+    counts = {it: instructions(program, it) for it in functions}
+    by_lines, by_numbers, by_column, by_matches, of_output = (counts[it] // 2000 for it in ("by_lines", "by_numbers", "by_column", "by_matches", "of_output"))
+    in_script, of_column = (counts["with_them"] - counts["without_them"]) // 2000, counts["of_column"]
+    print(f"a set of a held component takes {by_lines} instructions as a line, {by_numbers} by numbers, {by_column} in a column, {in_script} in a script;")
+    print(f"a column of a table {of_column} in all, whether an entity is in a query {by_matches}, the output {of_output}")
+    is_cheap = by_column < 40 and of_column < 5000 and of_output < 50
+    return 100 < by_lines < 1.2 * in_script and by_numbers < in_script and is_cheap and by_matches < by_lines
 
 
 def install(folder):
@@ -375,12 +415,13 @@ CASES = [
     the_header_is_c99_too,
     calls_answer_what_the_header_says,
     calls_leak_nothing,
-    c_example_runs,
+    c_examples_run,
     cpp_example_runs,
-    python_example_runs,
+    python_examples_run,
     examples_leak_nothing,
     python_docstring_is_true,
     python_tells_what_is_wrong,
+    python_ends_what_is_lent,
     scripts_print_what_the_program_prints,
     refused_memory_leaves_nothing_behind,
     refused_memory_is_clean,

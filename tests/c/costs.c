@@ -1,5 +1,6 @@
-/* What is counted by callgrind: 2,000 lines that set a held component, one at a time; as many calls that do; a script without these lines and one
- * with them; and where the output is, asked 2,000 times. Each is one function. */
+/* What is counted by callgrind: 2,000 lines that set a held component, one at a time; as many calls that do; one that sets all of a table, and one that
+ * gives them; as many that ask whether an entity is in a query; a script without these lines and one with them; and where the output is, asked 2,000 times.
+ * Each is one function. */
 #include "flecsq.h"
 
 #include <stdio.h>
@@ -41,6 +42,26 @@ COUNTED by_numbers(void) {
     }
 }
 
+static flecsq_table table;
+static uint64_t placed;
+static uint8_t values_of_all[COUNT * 8];
+
+COUNTED of_column(void) {
+    flecsq_values values;
+    size_t count;
+    wrong |= flecsq_tables(&handle, placed, &table, 1, &count) || count != 1 || table.count != COUNT;
+    wrong |= flecsq_column(&handle, &table, 64, &values) || values.len != sizeof values_of_all;
+}
+
+COUNTED by_column(void) { wrong |= flecsq_set_column(&handle, &table, 64, values_of_all, sizeof values_of_all); }
+
+COUNTED by_matches(void) {
+    bool is = false;
+    for (uint64_t n = 0; n < COUNT; n++) {
+        wrong |= flecsq_matches(&handle, placed, 65 + n, &is) || !is;
+    }
+}
+
 COUNTED without_them(void) { wrong |= run_script(ends[lines - COUNT]); }
 
 COUNTED with_them(void) { wrong |= run_script(ends[lines]); }
@@ -67,6 +88,10 @@ int main(void) {
     }
     by_lines();
     by_numbers();
+    wrong |= flecsq_query(&handle, (const uint8_t *)"Position", 8, &placed);
+    of_column();
+    by_column();
+    by_matches();
     without_them();
     with_them();
     of_output();

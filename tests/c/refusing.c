@@ -74,10 +74,32 @@ static int by_lines(int *run) {
     return bad;
 }
 
-enum { COMMANDS = 12 };
+enum { COMMANDS = 21 };
+
+/* Asks for the tables of a query, and sets the values of them. It takes no memory. */
+static int32_t set_columns(flecsq *handle, uint64_t query) {
+    static const uint8_t zeros[64];
+    flecsq_table tables[4];
+    flecsq_values values;
+    size_t count = 0;
+    const long before = calls;
+    int32_t status = flecsq_tables(handle, query, tables, 4, &count);
+    for (size_t n = 0; n < count && status == FLECSQ_OK; n++) {
+        status = flecsq_column(handle, &tables[n], 64, &values);
+        status = status == FLECSQ_OK ? flecsq_set_column(handle, &tables[n], 64, zeros, values.len) : status;
+    }
+    return calls == before && (count == 2 || status != FLECSQ_OK) ? status : FLECSQ_NUMBER;
+}
+
+/* Whether an entity matches a query, as is known. */
+static int32_t matches(flecsq *handle, uint64_t query, uint64_t entity) {
+    bool is = false;
+    int32_t status = flecsq_matches(handle, query, entity, &is);
+    return status == FLECSQ_OK && !is ? FLECSQ_NUMBER : status;
+}
 
 /* Carries out a command, and answers its status. */
-static int32_t command(flecsq *handle, int number, uint64_t made[2]) {
+static int32_t command(flecsq *handle, int number, uint64_t made[6]) {
     const uint64_t position = 64, planet = 65, child_of = 1;
     const int64_t values[2] = {10, -3};
     switch (number) {
@@ -91,12 +113,21 @@ static int32_t command(flecsq *handle, int number, uint64_t made[2]) {
     case 7: return flecsq_add(handle, made[1], flecsq_pair(child_of, made[0]));
     case 8: return flecsq_add(handle, made[1], planet);
     case 9: return flecsq_set(handle, made[1], position, values, 2);
-    case 10: return flecsq_remove(handle, made[1], position);
+    case 10: return flecsq_query(handle, (const uint8_t *)"Position", 8, &made[2]);
+    case 11: return set_columns(handle, made[2]);
+    case 12: return matches(handle, made[2], made[1]);
+    case 13: return flecsq_query(handle, (const uint8_t *)"(ChildOf,$p), Position($p)", 26, &made[3]);
+    case 14: return matches(handle, made[3], made[1]);
+    case 15: return flecsq_drop(handle, made[2]);
+    case 16: return flecsq_query(handle, (const uint8_t *)"Planet || Position(up)", 22, &made[4]);
+    case 17: return flecsq_entity_named(handle, (const uint8_t *)"Moon", 4, &made[5]);
+    case 18: return flecsq_add(handle, made[5], planet);
+    case 19: return flecsq_remove(handle, made[1], position);
     default: return flecsq_delete(handle, made[0]);
     }
 }
 
-static char of_commands[1024];
+static char of_commands[2048];
 static size_t command_ends[COMMANDS + 1];
 
 /* Carries out all, and answers whether all is right: how many were stands in `run`. One that was refused memory is tried again: it is carried out then, or
@@ -104,7 +135,7 @@ static size_t command_ends[COMMANDS + 1];
 static int by_commands(int *run) {
     flecsq handle = FLECSQ_NONE;
     flecsq_span out;
-    uint64_t made[2] = {0, 0};
+    uint64_t made[6] = {0};
     int bad = 0;
     *run = 0;
     if (flecsq_open(1, 2, &handle) == FLECSQ_OK) {
@@ -144,7 +175,7 @@ int main(void) {
     flecsq handle = FLECSQ_NONE;
     int bad = 0, run = 0, is_whole = 0;
     long by_lines_calls, by_commands_calls, as_script_calls;
-    uint64_t made[2];
+    uint64_t made[6];
 
     // (what is right: no call is refused)
     flecsq_open(1, 2, &handle);
